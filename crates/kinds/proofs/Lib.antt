@@ -1,0 +1,5 @@
+pub mod Bytes
+pub mod Codings
+pub mod Bands
+pub mod Spans
+pub mod Climates

@@ -1,0 +1,4 @@
+pub mod Outcomes
+pub mod Back
+pub mod Only
+pub mod First
