@@ -1,0 +1,5 @@
+pub mod Stored
+pub mod Entries
+pub mod Plans
+pub mod Filled
+pub mod Said
