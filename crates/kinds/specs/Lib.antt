@@ -4,3 +4,4 @@ pub mod Kinds
 pub mod Bands
 pub mod Spans
 pub mod Climates
+pub mod Known

@@ -3,4 +3,5 @@ pub mod band;
 pub mod buffer;
 pub mod climate;
 pub mod kind;
+pub mod known;
 pub mod span;
