@@ -24,11 +24,34 @@ use std::alloc::AllocError;
 use std::alloc::Global;
 use std::test::*;
 
-
 // One signature, 301, of two tracks and two frames, on two heads.
 const GOOD: [u8; 26] = [
-    0x01, 0x00, 0x02, 0x01, 0x02, 0x02, 0x00, 0x12, 0x01, 0x2D, 0x02, 0x02, 0x03, 0x00, 0x04, 0x00, 0x02, 0x00,
-    0x04, 0x03, 0x00, 0x04, 0x00, 0x01, 0x00, 0x03,
+    0x01,
+    0x00,
+    0x02,
+    0x01,
+    0x02,
+    0x02,
+    0x00,
+    0x12,
+    0x01,
+    0x2D,
+    0x02,
+    0x02,
+    0x03,
+    0x00,
+    0x04,
+    0x00,
+    0x02,
+    0x00,
+    0x04,
+    0x03,
+    0x00,
+    0x04,
+    0x00,
+    0x01,
+    0x00,
+    0x03,
 ];
 
 const MARK: BandSet = BandSet { bits: 0x7777 };
@@ -80,7 +103,25 @@ fn head_faults() -> Result<(), Fail> {
 fn signature_faults() -> Result<(), Fail> {
     refuses(&GOOD[0..25], 16, 10, 1, 5)?;
     refuses(&[0x01, 0x00, 0x02, 0x01, 0x02, 0x02, 0x00], 16, 10, 1, 5)?;
-    refuses(&[0x01, 0x00, 0x02, 0x01, 0x02, 0x02, 0x00, 0x03, 0x00, 0x01, 0x01], 16, 12, 2, 5)?;
+    refuses(
+        &[
+            0x01,
+            0x00,
+            0x02,
+            0x01,
+            0x02,
+            0x02,
+            0x00,
+            0x03,
+            0x00,
+            0x01,
+            0x01,
+        ],
+        16,
+        12,
+        2,
+        5,
+    )?;
     changed_refuses(5, 0x03, 11, 2, 5)?;
     changed_refuses(10, 0x00, 15, 3, 10)?;
     changed_refuses(10, 0x03, 15, 3, 10)?;
@@ -101,7 +142,22 @@ fn track_faults() -> Result<(), Fail> {
 
 // One signature of one track and one frame, on one head; 12 bytes.
 fn push_small(bytes: &mut Vec<u8>, name: u8) -> Result<(), AllocError> {
-    bytes.extend_from_slice(&[0x02, 0x00, 0x09, 0x00, name, 0x01, 0x01, 0x03, 0x00, 0x02, 0x00, 0x01])?;
+    bytes.extend_from_slice(
+        &[
+            0x02,
+            0x00,
+            0x09,
+            0x00,
+            name,
+            0x01,
+            0x01,
+            0x03,
+            0x00,
+            0x02,
+            0x00,
+            0x01,
+        ],
+    )?;
     Ok(())
 }
 
@@ -152,7 +208,17 @@ fn reads_301() -> Result<(), Fail> {
     check_eq(entry.tracks, 2)?;
     check_eq(entry.frames, 2)?;
     check_eq(entry.first, 0)?;
-    check_eq(store, [BandSet { bits: 2 }, BandSet { bits: 4 }, BandSet { bits: 1 }, BandSet { bits: 3 }, MARK, MARK])
+    check_eq(
+        store,
+        [
+            BandSet { bits: 2 },
+            BandSet { bits: 4 },
+            BandSet { bits: 1 },
+            BandSet { bits: 3 },
+            MARK,
+            MARK,
+        ],
+    )
 }
 
 // A refusal leaves the tests before it in the store, and every later place as it was.
@@ -162,7 +228,17 @@ fn refusal_leaves() -> Result<(), Fail> {
     let mut plan = Plan::empty();
     check(read_sheet(Band, &changed(25, 0x00), &mut plan, &mut store).is_err())?;
     check_eq(plan.heads(), 0)?;
-    check_eq(store, [BandSet { bits: 2 }, BandSet { bits: 4 }, BandSet { bits: 1 }, MARK, MARK, MARK])
+    check_eq(
+        store,
+        [
+            BandSet { bits: 2 },
+            BandSet { bits: 4 },
+            BandSet { bits: 1 },
+            MARK,
+            MARK,
+            MARK,
+        ],
+    )
 }
 
 // A climate test whose low moisture is n.
@@ -264,7 +340,10 @@ fn temperatures() -> Result<(), Fail> {
         moisture: 0,
         temperature: -400,
     };
-    check_eq(Climate.read_reading(&[0x00, 0x00, 0xFE, 0x70]), Some(coldest))?;
+    check_eq(
+        Climate.read_reading(&[0x00, 0x00, 0xFE, 0x70]),
+        Some(coldest),
+    )?;
     check(Climate.read_reading(&[0x00, 0x00, 0xFE, 0x6F]).is_none())?;
     check(Climate.read_reading(&[0x00, 0x00, 0x09, 0xC4]).is_some())?;
     check(Climate.read_reading(&[0x00, 0x00, 0x09, 0xC5]).is_none())?;
@@ -295,7 +374,24 @@ fn texts(rt: LibcRuntime) -> Result<(), Fail> {
         "kind band\nheads 2\nsignature 301: tracks 2, frames 2\n  track 0, frame 1: bands 1\n  track 0, frame 2: bands 2\n  track 1, frame 1: bands 0\n  track 1, frame 2: bands 0, 1\n",
     )?;
     let span = [
-        0x01, 0x00, 0x02, 0x02, 0x01, 0x02, 0x00, 0x0B, 0x00, 0x01, 0x01, 0x01, 0x03, 0x00, 0x04, 0x02, 0x58, 0x02,
+        0x01,
+        0x00,
+        0x02,
+        0x02,
+        0x01,
+        0x02,
+        0x00,
+        0x0B,
+        0x00,
+        0x01,
+        0x01,
+        0x01,
+        0x03,
+        0x00,
+        0x04,
+        0x02,
+        0x58,
+        0x02,
         0xEE,
     ];
     let moist = sheet_text(rt.alloc(), &span)?;
@@ -304,5 +400,8 @@ fn texts(rt: LibcRuntime) -> Result<(), Fail> {
         "kind span\nheads 1\nsignature 1: tracks 1, frames 1\n  track 0, frame 1: moisture 6.00 % to 7.50 %\n",
     )?;
     let other = sheet_text(rt.alloc(), &changed(3, 0x09))?;
-    check_eq(other.as_str(), "fault 13 3 3\nkind: the code of another kind; it stands at byte 3\n")
+    check_eq(
+        other.as_str(),
+        "fault 13 3 3\nkind: the code of another kind; it stands at byte 3\n",
+    )
 }

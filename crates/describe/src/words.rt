@@ -4,7 +4,8 @@ use sheetfile::fault::Cause;
 // What is wrong, in words that the place can follow.
 pub fn words(cause: Cause) -> &'static str {
     match cause {
-        Cause::Cut => "cut: a field has under 3 bytes, or its body goes past the end; the field starts",
+        Cause::Cut =>
+            "cut: a field has under 3 bytes, or its body goes past the end; the field starts",
         Cause::Tag => "tag: not the tag that is due; it stands",
         Cause::Length => "length: not the length that is due; the field starts",
         Cause::Kind => "kind: the code of another kind; it stands",
@@ -15,6 +16,7 @@ pub fn words(cause: Cause) -> &'static str {
         Cause::Thirteenth => "thirteenth: a sheet has at most 12 signatures; the next one starts",
         Cause::Bare => "bare: the sheet has no signature; it ends",
         Cause::Name => "name: not above the name before it; it stands",
-        Cause::Store => "store: the sheet has more tests than the store holds; the signature starts",
+        Cause::Store =>
+            "store: the sheet has more tests than the store holds; the signature starts",
     }
 }

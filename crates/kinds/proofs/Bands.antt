@@ -19,7 +19,7 @@ pub sets-lawful : Lawful most-test-width band-tests
 sets-lawful =
     fixed-lawful 2 set-sound (λ t. pair (t .bits)) set-at (omega arith) (omega arith)
     (λ t h. let b = ltb-true (t .bits) 65536 (and-parts (ltb 0 (t .bits)) (ltb (t .bits) 65536) h .1) in
-      (sized-from 2 (pair (t .bits)) refl (pair-octets (t .bits) [] refl), ap (λ n. record { bits = n }) (word-of (t .bits) b)))
+    (sized-from 2 (pair (t .bits)) refl (pair-octets (t .bits) [] refl), ap (λ n. record { bits = n }) (word-of (t .bits) b)))
     (λ bs h. two bs (each-octet 2 bs h))
   where
     two : (bs : List ℕ) → Octets 2 bs → pair (set-at bs .bits) ≡ bs

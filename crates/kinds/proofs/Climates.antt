@@ -42,7 +42,7 @@ bits-at n bs h i = ap pair (bits-back (word bs i) (word-small n bs h i)) ∙ pai
 
 -- what the code puts together from the bytes is the value that they stand for
 pub test-is : (bs : List ℕ) (a b : ℕ) (y z : ℤ) → sized 8 bs ≡ true → a ≡ word bs 0 → b ≡ word bs 2 → y ≡ toZ w16 (word bs 4) → z ≡ toZ w16 (word bs 6)
-  → climate-at bs ≡ record { moisture = record { low = a; high = b }; temperature = record { low = toZ w16 (ofZ w16 y); high = toZ w16 (ofZ w16 z) } }
+    → climate-at bs ≡ record { moisture = record { low = a; high = b }; temperature = record { low = toZ w16 (ofZ w16 y); high = toZ w16 (ofZ w16 z) } }
 test-is bs a b y z all p q r s =
     let small = word-small 8 bs (each-octet 8 bs all) in
     let l = bits-are (word bs 4) y (small 4) r in
@@ -50,7 +50,7 @@ test-is bs a b y z all p q r s =
     cc
 
 pub reading-is : (bs : List ℕ) (a : ℕ) (y : ℤ) → sized 4 bs ≡ true → a ≡ word bs 0 → y ≡ toZ w16 (word bs 2)
-  → reading-at bs ≡ record { moisture = a; temperature = toZ w16 (ofZ w16 y) }
+    → reading-at bs ≡ record { moisture = a; temperature = toZ w16 (ofZ w16 y) }
 reading-is bs a y all p q = let t = bits-are (word bs 2) y (word-small 4 bs (each-octet 4 bs all) 2) q in cc
 
 -- a temperature in bounds fits 16 bits, and comes back from them
@@ -77,16 +77,17 @@ pub climate-tests-lawful : Lawful most-test-width climate-tests
 climate-tests-lawful =
     fixed-lawful 8 climate-sound climate-bytes climate-at (omega arith) (omega arith)
     (λ t h.
-      let p = and-parts (span-sound (t .moisture)) (temperatures-sound (t .temperature)) h in
-      let m = t .moisture in
-      let f = span-fits m (p .0) in
-      let k = t .temperature in
-      let g = ends-fit k (p .1) in
-      (sized-from 8 (climate-bytes t) refl
-        (pair-octets (m .low) (pair (m .high) ++ temperatures-bytes k) (pair-octets (m .high) (temperatures-bytes k) (pair-octets (to-bits (k .low)) (pair (to-bits (k .high))) (pair-octets (to-bits (k .high)) [] refl)))),
+    let p = and-parts (span-sound (t .moisture)) (temperatures-sound (t .temperature)) h in
+    let m = t .moisture in
+    let f = span-fits m (p .0) in
+    let k = t .temperature in
+    let g = ends-fit k (p .1) in (
+      sized-from 8 (climate-bytes t) refl
+          (pair-octets (m .low) (pair (m .high) ++ temperatures-bytes k) (pair-octets (m .high) (temperatures-bytes k) (pair-octets (to-bits (k .low)) (pair (to-bits (k .high))) (pair-octets (to-bits (k .high)) [] refl)))),
       ap (λ s. record { moisture = s; temperature = temperatures-at (temperatures-bytes k) 0 }) (span-back m (f .0) (f .1))
-      ∙ ap (λ z. record { moisture = m; temperature = record { low = z; high = of-bits (word (pair (to-bits (k .high))) 0) } }) (ap of-bits (word-of _ (g .0 .few)) ∙ g .0 .back)
-      ∙ ap (λ z. record { moisture = m; temperature = record { low = k .low; high = z } }) (ap of-bits (word-of _ (g .1 .few)) ∙ g .1 .back)))
+          ∙ ap (λ z. record { moisture = m; temperature = record { low = z; high = of-bits (word (pair (to-bits (k .high))) 0) } }) (ap of-bits (word-of _ (g .0 .few)) ∙ g .0 .back)
+          ∙ ap (λ z. record { moisture = m; temperature = record { low = k .low; high = z } }) (ap of-bits (word-of _ (g .1 .few)) ∙ g .1 .back),
+    ))
     (λ bs h. eight bs (each-octet 8 bs h))
   where
     eight : (bs : List ℕ) → Octets 8 bs → climate-bytes (climate-at bs) ≡ bs
@@ -101,13 +102,14 @@ pub climate-readings-lawful : Lawful most-reading-width climate-readings
 climate-readings-lawful =
     fixed-lawful 4 climate-lawful reading-bytes reading-at (omega arith) (omega arith)
     (λ x h.
-      let p = and-parts (moisture-lawful (x .moisture)) (temperature-lawful (x .temperature)) h in
-      let m = leb-true (x .moisture) most-moisture (p .0) in
-      let q = and-parts (leZ least-temperature (x .temperature)) (leZ (x .temperature) most-temperature) (p .1) in
-      let f = fits (x .temperature) (q .0) (q .1) in
-      (sized-from 4 (reading-bytes x) refl (pair-octets (x .moisture) (pair (to-bits (x .temperature))) (pair-octets (to-bits (x .temperature)) [] refl)),
+    let p = and-parts (moisture-lawful (x .moisture)) (temperature-lawful (x .temperature)) h in
+    let m = leb-true (x .moisture) most-moisture (p .0) in
+    let q = and-parts (leZ least-temperature (x .temperature)) (leZ (x .temperature) most-temperature) (p .1) in
+    let f = fits (x .temperature) (q .0) (q .1) in (
+      sized-from 4 (reading-bytes x) refl (pair-octets (x .moisture) (pair (to-bits (x .temperature))) (pair-octets (to-bits (x .temperature)) [] refl)),
       ap (λ n. record { moisture = n; temperature = of-bits (word (pair (to-bits (x .temperature))) 0) }) (word-of (x .moisture) (omega arith))
-      ∙ ap (λ z. record { moisture = x .moisture; temperature = z }) (ap of-bits (word-of _ (f .few)) ∙ f .back)))
+          ∙ ap (λ z. record { moisture = x .moisture; temperature = z }) (ap of-bits (word-of _ (f .few)) ∙ f .back),
+    ))
     (λ bs h. four bs (each-octet 4 bs h))
   where
     four : (bs : List ℕ) → Octets 4 bs → reading-bytes (reading-at bs) ≡ bs

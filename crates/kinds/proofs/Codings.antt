@@ -26,16 +26,16 @@ module _ {X : Type 0} (w : ℕ) (proper : X → Bool) (bytes : X → List ℕ) (
       ap (λ b. cond (b && proper (value bs)) (Some (value bs)) None) s ∙ ap (λ y. cond (proper y) (Some y) None) v ∙ ap (λ b. cond b (Some x) None) p
 
   pub fixed-lawful : {most : ℕ} → 1 ≤ w → w ≤ most
-    → ((x : X) → proper x ≡ true → (sized w (bytes x) ≡ true) × (value (bytes x) ≡ x))
-    → ((bs : List ℕ) → sized w bs ≡ true → bytes (value bs) ≡ bs)
-    → Lawful most (fixed w proper bytes value)
+      → ((x : X) → proper x ≡ true → (sized w (bytes x) ≡ true) × (value (bytes x) ≡ x))
+      → ((bs : List ℕ) → sized w bs ≡ true → bytes (value bs) ≡ bs)
+      → Lawful most (fixed w proper bytes value)
   fixed-lawful some few there back =
       record {
         back = λ x p. let h = there x p in fixed-some (bytes x) x (h .0) (h .1) p;
         only = λ bs x h.
-          let s = some-from (sized w bs && proper (value bs)) (value bs) x h in
-          let p = and-parts (sized w bs) (proper (value bs)) (s .0) in
-          (ap proper (sym (s .1)) ∙ p .1, ap bytes (sym (s .1)) ∙ back bs (p .0));
+            let s = some-from (sized w bs && proper (value bs)) (value bs) x h in
+            let p = and-parts (sized w bs) (proper (value bs)) (s .0) in
+            (ap proper (sym (s .1)) ∙ p .1, ap bytes (sym (s .1)) ∙ back bs (p .0));
         wide = λ x p. sized-parts w (bytes x) (there x p .0) .0;
         some = some;
         few = few;

@@ -31,7 +31,7 @@ pub spans-lawful : Lawful most-test-width span-tests
 spans-lawful =
     fixed-lawful 4 span-sound span-bytes (λ bs. span-at bs 0) (omega arith) (omega arith)
     (λ t h. let f = span-fits t h in
-      (sized-from 4 (span-bytes t) refl (pair-octets (t .low) (pair (t .high)) (pair-octets (t .high) [] refl)), span-back t (f .0) (f .1)))
+    (sized-from 4 (span-bytes t) refl (pair-octets (t .low) (pair (t .high)) (pair-octets (t .high) [] refl)), span-back t (f .0) (f .1)))
     (λ bs h. four bs (each-octet 4 bs h))
   where
     four : (bs : List ℕ) → Octets 4 bs → span-bytes (span-at bs 0) ≡ bs

@@ -61,7 +61,11 @@ pub impl Kind for Band as BandKind {
         let test = BandSet {
             bits: u16::from_be_bytes([*high, *low]),
         };
-        if self.is_sound(&test) { Some(test) } else { None }
+        if self.is_sound(&test) {
+            Some(test)
+        } else {
+            None
+        }
     }
 
     fn write_test(self, test: &BandSet, buffer: &mut [u8]) -> bool {
@@ -73,7 +77,11 @@ pub impl Kind for Band as BandKind {
         let [band] = bytes else {
             return None;
         };
-        if self.is_lawful(band) { Some(*band) } else { None }
+        if self.is_lawful(band) {
+            Some(*band)
+        } else {
+            None
+        }
     }
 
     fn write_reading(self, reading: &u8, buffer: &mut [u8]) -> bool {

@@ -110,7 +110,11 @@ pub impl Kind for Climate as ClimateKind {
             moisture,
             temperature,
         };
-        if self.is_sound(&test) { Some(test) } else { None }
+        if self.is_sound(&test) {
+            Some(test)
+        } else {
+            None
+        }
     }
 
     fn write_test(self, test: &ClimateTest, buffer: &mut [u8]) -> bool {
@@ -130,7 +134,11 @@ pub impl Kind for Climate as ClimateKind {
             moisture: u16::from_be_bytes([*a, *b]),
             temperature: i16::from_be_bytes([*c, *d]),
         };
-        if self.is_lawful(&reading) { Some(reading) } else { None }
+        if self.is_lawful(&reading) {
+            Some(reading)
+        } else {
+            None
+        }
     }
 
     fn write_reading(self, reading: &ClimateReading, buffer: &mut [u8]) -> bool {

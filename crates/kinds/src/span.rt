@@ -92,7 +92,11 @@ pub impl Kind for Span as SpanKind {
             return None;
         };
         let moisture = u16::from_be_bytes([*high, *low]);
-        if self.is_lawful(&moisture) { Some(moisture) } else { None }
+        if self.is_lawful(&moisture) {
+            Some(moisture)
+        } else {
+            None
+        }
     }
 
     fn write_reading(self, reading: &u16, buffer: &mut [u8]) -> bool {

@@ -57,9 +57,9 @@ module _ {T : Type 0} (k : Coding T) (law : Lawful most-test-width k) (heads : �
       let here : drop first store ≡ tests-of s ++ later = is ∙ append-assoc (tests-of s) (all-tests ss) more in
       let cut : pieces m (length (s .tracks)) (drop first store) ≡ s .tracks = ap (pieces m (length (s .tracks))) here ∙ pieces-joined m (s .tracks) later (each-long m (s .tracks) (h .0 .tracks)) in
       let next : drop (first + test-count s) store ≡ later =
-            sym (drop-drop (test-count s) first store)
-            ∙ ap (drop (test-count s)) here
-            ∙ drop-at (tests-of s) later (test-count s) (tests-long k law m (s .tracks) (h .0 .tracks)) in
+      sym (drop-drop (test-count s) first store)
+      ∙ ap (drop (test-count s)) here
+      ∙ drop-at (tests-of s) later (test-count s) (tests-long k law m (s .tracks) (h .0 .tracks)) in
       ap (λ tss. record { name = s .name; frames = m; tracks = tss } ∷ map (signature-said store) (entries-of (first + test-count s) ss)) cut
       ∙ ap (λ rest. s ∷ rest) (said-signatures store more (first + test-count s) ss (h .1) next)
 
@@ -70,7 +70,7 @@ module _ {T : Type 0} (code : ℕ) (k : Coding T) (law : Lawful most-test-width 
       let es = entries-of 0 (s .signatures) in
       let front : take (p .count) (p .entries) ≡ es = ap (λ xs. take (p .count) xs) (h .entries-are) ∙ take-at es (replicate (most-signatures - length es) blank) (p .count) (sym (h .count-is)) in
       let same : map (signature-said new) (take (p .count) (p .entries)) ≡ s .signatures =
-            ap (map (signature-said new)) front ∙ said-signatures k law (s .heads) new (drop (0 + length (all-tests (s .signatures))) old) 0 (s .signatures) (w .signatures) is in
+      ap (map (signature-said new)) front ∙ said-signatures k law (s .heads) new (drop (0 + length (all-tests (s .signatures))) old) 0 (s .signatures) (w .signatures) is in
       ap (λ c. record { code = c; heads = p .heads; signatures = map (signature-said new) (take (p .count) (p .entries)) }) (h .code-is)
       ∙ ap (λ n. record { code = s .code; heads = n; signatures = map (signature-said new) (take (p .count) (p .entries)) }) (h .heads-is)
       ∙ ap (λ ss. record { code = s .code; heads = s .heads; signatures = ss }) same

@@ -113,7 +113,7 @@ module _ {T : Type 0} (k : Coding T) (room heads least used at : ℕ) (body : Li
               signature-broke e s new part =
                   let q = told-err (λ tss. tt) (read .end) e (part .answer) in
                   let is : into (entry used) all ≡ record { tests = read .tests; end = Err e } =
-                        ap (into (entry used)) p6 ∙ ap (λ o. into (entry used) (into sig o)) (sym same) ∙ ap (λ r. record { tests = read .tests; end = mapped (entry used) (mapped sig r) }) q in
+                  ap (into (entry used)) p6 ∙ ap (λ o. into (entry used) (into sig o)) (sym same) ∙ ap (λ r. record { tests = read .tests; end = mapped (entry used) (mapped sig r) }) q in
                   left-is is (record { answer = refl; store-is = part .store-is })
 
               pub signature-done : (s new : List T) (nm : ℕ) → nm ≡ name → Left (bare read) used s (Ok tt) new → Left (into (entry used) all) used s (Ok (record { name = nm; tracks = n; frames = m; first = used })) new
@@ -121,7 +121,7 @@ module _ {T : Type 0} (k : Coding T) (room heads least used at : ℕ) (body : Li
                   let q = told-ok (λ tss. tt) (read .end) tt (part .answer) in
                   let count = tracks-count k m n (at + 7) (take (length body - 4) (drop 4 body)) (q .0) (q .1) in
                   let is : into (entry used) all ≡ record { tests = read .tests; end = Ok (record { name = nm; tracks = n; frames = m; first = used }) } =
-                        ap (into (entry used)) p6 ∙ ap (λ o. into (entry used) (into sig o)) (sym same) ∙ ap (λ r. record { tests = read .tests; end = mapped (entry used) (mapped sig r) }) (q .1)
-                        ∙ ap (λ l. record { tests = read .tests; end = Ok (record { name = name; tracks = l; frames = m; first = used }) }) count
-                        ∙ ap (λ l. record { tests = read .tests; end = Ok (record { name = l; tracks = n; frames = m; first = used }) }) (sym named) in
+                  ap (into (entry used)) p6 ∙ ap (λ o. into (entry used) (into sig o)) (sym same) ∙ ap (λ r. record { tests = read .tests; end = mapped (entry used) (mapped sig r) }) (q .1)
+                  ∙ ap (λ l. record { tests = read .tests; end = Ok (record { name = name; tracks = l; frames = m; first = used }) }) count
+                  ∙ ap (λ l. record { tests = read .tests; end = Ok (record { name = l; tracks = n; frames = m; first = used }) }) (sym named) in
                   left-is is (record { answer = refl; store-is = part .store-is })

@@ -111,7 +111,7 @@ module _ {T : Type 0} (k : Coding T) where
         let fits = enough h l in
         let more = tests-read k less (place + w) (drop w rest) in
         let step : bare (tests-read k (frames - i) place rest) ≡ record { tests = t ∷ more .tests; end = bare more .end } =
-              ap bare (tests-some (frames - i) less place rest e ∙ ap (λ o. one o place more) (sym reads)) ∙ ap (λ r. record { tests = t ∷ more .tests; end = r }) (twice (λ ts. t ∷ ts) (λ ts. tt) (more .end)) in
+        ap bare (tests-some (frames - i) less place rest e ∙ ap (λ o. one o place more) (sym reads)) ∙ ap (λ r. record { tests = t ∷ more .tests; end = r }) (twice (λ ts. t ∷ ts) (λ ts. tt) (more .end)) in
         record {
           same = subst (λ (m : ℕ). Same (bare (tests-read k frames at body)) from s₀ (bare more) m (set s (from + i) t)) (omega arith) (same-test t (h .same) (omega (arith, h .room)) step);
           long = omega (arith, length-drop w rest, h .long, ap (λ n. n * w) e, suc-mul less w);
@@ -198,9 +198,9 @@ module _ {T : Type 0} (k : Coding T) (law : Lawful most-test-width k) (m : ℕ) 
           let tail = take-rest rest size in
           let more : List ℕ → ℕ → Outcome T (List (List T)) = λ ys v. tracks-read k m left (place + v) ys in
           let step : bare (then-tracks left place rest (p .0)) ≡ bare (more (take (length rest - size) (drop size rest)) size) =
-                bare-into (λ tss. p .0 ∷ tss) (more (drop (track-size k m) rest) (track-size k m))
-                ∙ ap (λ v. bare (more (drop v rest) v)) (sym is)
-                ∙ ap (λ ys. bare (more ys size)) (sym tail) in
+          bare-into (λ tss. p .0 ∷ tss) (more (drop (track-size k m) rest) (track-size k m))
+          ∙ ap (λ v. bare (more (drop v rest) v)) (sym is)
+          ∙ ap (λ ys. bare (more ys size)) (sym tail) in
           record {
             same = same-at step (ap (λ l. next + l) count) (p .3);
             long = omega (arith, ap length tail, length-drop size rest, h .long, ap (λ n. n * track-size k m) less, suc-mul left (track-size k m));

@@ -44,9 +44,9 @@ module _ {T : Type 0} {o : Outcome T (List Entry)} {s new : List T} {entries₀ 
       record {
         read = record { answer = ap Ok (sym size) ∙ ap (mapped length) (l .answer); store-is = l .store-is };
         filled = λ rs h.
-          let is : take count entries ++ [] ≡ rs = let a = l .answer in cc in
-          let n : length rs ≡ count = ap length (sym is) ∙ size in
-          sym (take-append-drop count entries) ∙ ap (λ xs. xs ++ drop count entries) (sym (append-nil (take count entries)) ∙ is) ∙ ap (λ xs. rs ++ xs) (later ∙ ap (λ l. drop l entries₀) (sym n));
+            let is : take count entries ++ [] ≡ rs = let a = l .answer in cc in
+            let n : length rs ≡ count = ap length (sym is) ∙ size in
+            sym (take-append-drop count entries) ∙ ap (λ xs. xs ++ drop count entries) (sym (append-nil (take count entries)) ∙ is) ∙ ap (λ xs. rs ++ xs) (later ∙ ap (λ l. drop l entries₀) (sym n));
       }
 
 module _ {T : Type 0} (k : Coding T) (law : Lawful most-test-width k) (room heads : ℕ) where
@@ -69,9 +69,9 @@ module _ {T : Type 0} (k : Coding T) (law : Lawful most-test-width k) (room head
         bad : (l : ℕ) → signatures-read k room heads l least used at xs ≡ stop e
         bad zero = cond-false _ _ _ more ∙ ap (λ r. on r (λ body. stop (fault Thirteenth at))) (sym h)
         bad (suc l) = cond-false _ _ _ more ∙ ap (λ r. on r (λ body.
-              chain (signature-read k room heads least used at body) (λ s.
-              into (λ ss. s ∷ ss)
-              (signatures-read k room heads l (s .name + 1) (used + test-count s) (at + (3 + length body)) (drop (3 + length body) xs))))) (sym h)
+            chain (signature-read k room heads least used at body) (λ s.
+            into (λ ss. s ∷ ss)
+            (signatures-read k room heads l (s .name + 1) (used + test-count s) (at + (3 + length body)) (drop (3 + length body) xs))))) (sym h)
 
     pub signatures-full : (body : List ℕ) → left ≡ 0 → 0 < length xs → Ok body ≡ field-read signature-tag at xs → signatures-read k room heads left least used at xs ≡ stop (fault Thirteenth at)
     unfolding signatures-read
@@ -149,11 +149,11 @@ module _ {T : Type 0} (k : Coding T) (law : Lawful most-test-width k) (room head
               let more : List ℕ → Outcome T (List (Signature T)) = λ ys. signatures-read k room heads (length entries₀ - (count + 1)) (y .name + 1) (used + test-count y) (place + size) ys in
               let front : take (count + 1) (set entries count (entry used y)) ≡ take count entries ++ entry used y ∷ [] = take-more-set entries count (entry used y) left in
               let step : into (ahead (take count entries) used) (next z) ≡ into (ahead (take (count + 1) (set entries count (entry used y))) (used + test-count y)) (more (take (length rest - size) (drop size rest))) =
-                    ap (λ v. into (ahead (take count entries) used) (next v)) zy
-                    ∙ into-into (λ ss. y ∷ ss) (ahead (take count entries) used) (more (drop size rest))
-                    ∙ into-same _ (ahead (take count entries ++ entry used y ∷ []) (used + test-count y)) (more (drop size rest)) (λ ss. sym (append-assoc (take count entries) (entry used y ∷ []) (entries-of (used + test-count y) ss)))
-                    ∙ ap (λ done. into (ahead done (used + test-count y)) (more (drop size rest))) (sym front)
-                    ∙ ap (λ ys. into (ahead (take (count + 1) (set entries count (entry used y))) (used + test-count y)) (more ys)) (sym tail) in
+              ap (λ v. into (ahead (take count entries) used) (next v)) zy
+              ∙ into-into (λ ss. y ∷ ss) (ahead (take count entries) used) (more (drop size rest))
+              ∙ into-same _ (ahead (take count entries ++ entry used y ∷ []) (used + test-count y)) (more (drop size rest)) (λ ss. sym (append-assoc (take count entries) (entry used y ∷ []) (entries-of (used + test-count y) ss)))
+              ∙ ap (λ done. into (ahead done (used + test-count y)) (more (drop size rest))) (sym front)
+              ∙ ap (λ ys. into (ahead (take (count + 1) (set entries count (entry used y))) (used + test-count y)) (more ys)) (sym tail) in
               let all : Signatures-turn (count + 1) (y .name + 1) (used + test-count y) (place + size) (take (length rest - size) (drop size rest)) (set entries count (entry used y)) new = record {
                 same = same-at step (ap (λ l. used + l) tests) so;
                 fits = (fits, kept ∙ h .fits .1);

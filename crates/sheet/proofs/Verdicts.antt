@@ -46,8 +46,8 @@ module _ {T : Type 0} (code : ℕ) (k : Coding T) (law : Lawful most-test-width 
       record {
         plan = subst (λ (r : Result (Sheet T) Fault). Filled r p) q (h .plan);
         no-file = λ s w is.
-          let b = ap (λ xs. rule code k (length old) xs .end) is ∙ ap (λ o. o .end) (reads-back k law code (length old) s (w .sheet-within) (w .enough)) in
-          let z : _≡_ {A = ℕ} 0 1 = cc in
-          omega arith;
+            let b = ap (λ xs. rule code k (length old) xs .end) is ∙ ap (λ o. o .end) (reads-back k law code (length old) s (w .sheet-within) (w .enough)) in
+            let z : _≡_ {A = ℕ} 0 1 = cc in
+            omega arith;
         first-check = first-fails k code (length old) bytes e q;
       }

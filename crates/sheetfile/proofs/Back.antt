@@ -140,7 +140,7 @@ module _ {T : Type 0} (k : Coding T) (law : Lawful most-test-width k) where
       let rest : List ℕ → Signature T → Outcome T (List (Signature T)) = λ xs s′. into (λ ss′. s′ ∷ ss′) (signatures-read k room heads left (s′ .name + 1) (used + test-count s′) (at + size) xs) in
       cond-false _ _ _ (ne-eqb (length (field 2 body ++ ys)) 0 (λ z. omega arith))
       ∙ ap (λ o. on o (λ b. chain (signature-read k room heads least used at b) (λ s′. into (λ ss′. s′ ∷ ss′) (signatures-read k room heads left (s′ .name + 1) (used + test-count s′) (at + (3 + length b)) (drop (3 + length b) (field 2 body ++ ys))))))
-         (field-back 2 at body ys (signature-small heads s few (each .0)))
+      (field-back 2 at body ys (signature-small heads s few (each .0)))
       ∙ ap (λ r. chain r (λ s′. rest (drop size (field 2 body ++ ys)) s′)) (signature-back room heads least used at s (each .0) (up .0) (omega arith))
       ∙ ap (λ xs. after (tests-of s) (rest xs s)) (drop-at (field 2 body) ys size (omega arith))
       ∙ ap (λ r. after (tests-of s) (into (λ ss′. s ∷ ss′) r)) (signatures-back room heads left (s .name + 1) (used + test-count s) (at + size) ss few (omega arith) (up .1) (each .1) (omega arith))
@@ -160,13 +160,13 @@ module _ {T : Type 0} (k : Coding T) (law : Lawful most-test-width k) where
       let rest : List (Signature T) → Sheet T = λ ss. record { code = s .code; heads = s .heads; signatures = ss } in
       let all = signatures-read k room (s .heads) most-signatures 0 0 5 ys in
       ap (λ o. on o (λ b.
-         check (not (eqb (length b) 2)) (fault Length 0)
-         (check (not (eqb (getD b 0 0) code)) (fault Kind 3)
-         (check (not (within 1 most-heads (getD b 1 0))) (fault Heads 4)
-         (check (eqb (length xs) 5) (fault Bare 5)
-         (into (λ ss. record { code = getD b 0 0; heads = getD b 1 0; signatures = ss })
-         (signatures-read k room (getD b 1 0) most-signatures 0 0 5 (drop 5 xs))))))))
-         (field-back 1 0 body ys (omega arith))
+      check (not (eqb (length b) 2)) (fault Length 0)
+      (check (not (eqb (getD b 0 0) code)) (fault Kind 3)
+      (check (not (within 1 most-heads (getD b 1 0))) (fault Heads 4)
+      (check (eqb (length xs) 5) (fault Bare 5)
+      (into (λ ss. record { code = getD b 0 0; heads = getD b 1 0; signatures = ss })
+      (signatures-read k room (getD b 1 0) most-signatures 0 0 5 (drop 5 xs))))))))
+      (field-back 1 0 body ys (omega arith))
       ∙ held _ _ _ (is-not (s .code) code (h .code-is))
       ∙ held _ _ _ (is-within 1 most-heads (s .heads) (h .some-heads) (h .few-heads))
       ∙ held _ _ _ (ne-eqb (length xs) 5 (λ z. some-bytes (s .signatures) (h .some-signatures) (omega arith)))

@@ -282,9 +282,9 @@ module _ {T : Type 0} (k : Coding T) where
           let none = eqb (length xs) 0 in
           shown-cond none (give []) (on (field-read 2 at xs) here)
           ∙ ap (λ r. cond none (Ok tt) r)
-            (shown-on (field-read 2 at xs) here (run (first ++ later)) from
-            ∙ ap (λ r. then r (run (first ++ later))) (field-shown 2 at xs)
-            ∙ sym (run-append (field-checks 2 at xs) (first ++ later)))
+          (shown-on (field-read 2 at xs) here (run (first ++ later)) from
+          ∙ ap (λ r. then r (run (first ++ later))) (field-shown 2 at xs)
+          ∙ sym (run-append (field-checks 2 at xs) (first ++ later)))
           ∙ sym (run-cond none (field-checks 2 at xs ++ (first ++ later)))
 
     no-more : Same 0
@@ -294,9 +294,9 @@ module _ {T : Type 0} (k : Coding T) where
         let last = or-fault false 18 at 3 ∷ [] in
         shown-cond none (give []) (on (field-read 2 at xs) (λ body. stop (fault Thirteenth at)))
         ∙ ap (λ r. cond none (Ok tt) r)
-          (shown-on (field-read 2 at xs) (λ body. stop (fault Thirteenth at)) (run last) (λ body h. refl)
-          ∙ ap (λ r. then r (run last)) (field-shown 2 at xs)
-          ∙ sym (run-append (field-checks 2 at xs) last))
+        (shown-on (field-read 2 at xs) (λ body. stop (fault Thirteenth at)) (run last) (λ body h. refl)
+        ∙ ap (λ r. then r (run last)) (field-shown 2 at xs)
+        ∙ sym (run-append (field-checks 2 at xs) last))
         ∙ sym (run-cond none (field-checks 2 at xs ++ last))
 
     signatures-shown : (left : ℕ) → Same left
@@ -345,11 +345,11 @@ module _ {T : Type 0} (k : Coding T) where
         let bare = eqb (length xs) 5 in
         shown-check coded (fault Kind 3) (s2 b)
         ∙ ap (λ r. cond coded r (Err (told (fault Kind 3))))
-          (shown-check (within 1 most-heads heads) (fault Heads 4) (s3 b)
-          ∙ ap (λ r. cond (within 1 most-heads heads) r (Err (told (fault Heads 4))))
-            (ap (λ c. shown (check c (fault Bare 5) (into (sheet b) (rest heads)) .end)) (contrary bare)
-            ∙ shown-check (not bare) (fault Bare 5) (into (sheet b) (rest heads))
-            ∙ ap (λ r. cond (not bare) r (Err (told (fault Bare 5)))) (shown-mapped (sheet b) (rest heads .end) ∙ signatures-shown room heads most-signatures 0 0 5 (drop 5 xs))))
+        (shown-check (within 1 most-heads heads) (fault Heads 4) (s3 b)
+        ∙ ap (λ r. cond (within 1 most-heads heads) r (Err (told (fault Heads 4))))
+        (ap (λ c. shown (check c (fault Bare 5) (into (sheet b) (rest heads)) .end)) (contrary bare)
+        ∙ shown-check (not bare) (fault Bare 5) (into (sheet b) (rest heads))
+        ∙ ap (λ r. cond (not bare) r (Err (told (fault Bare 5)))) (shown-mapped (sheet b) (rest heads .end) ∙ signatures-shown room heads most-signatures 0 0 5 (drop 5 xs))))
 
     behind : (b : List ℕ) → Body xs b → eqb (word xs 1) 2 ≡ true → shown (s1 b .end) ≡ figures (getD xs 3 0) (getD xs 4 0)
     behind b p two =
@@ -372,9 +372,9 @@ module _ {T : Type 0} (k : Coding T) where
         let more = cond two (figures (getD xs 3 0) (getD xs 4 0)) (Err (told (fault Length 0))) in
         shown-on (field-read 1 0 xs) s0 more
         (λ b h. let p = field-body 1 0 xs b h in
-          shown-check (eqb (length b) 2) (fault Length 0) (s1 b)
-          ∙ ap (λ l. cond (eqb l 2) (shown (s1 b .end)) (Err (told (fault Length 0)))) (p .long)
-          ∙ cond-where two (shown (s1 b .end)) (figures (getD xs 3 0) (getD xs 4 0)) (Err (told (fault Length 0))) (behind b p))
+        shown-check (eqb (length b) 2) (fault Length 0) (s1 b)
+        ∙ ap (λ l. cond (eqb l 2) (shown (s1 b .end)) (Err (told (fault Length 0)))) (p .long)
+        ∙ cond-where two (shown (s1 b .end)) (figures (getD xs 3 0) (getD xs 4 0)) (Err (told (fault Length 0))) (behind b p))
         ∙ ap (λ r. then r more) (field-shown 1 0 xs)
         ∙ sym (run-append (field-checks 1 0 xs) head-checks)
 

@@ -262,12 +262,12 @@ module _ {T : Type 0} (k : Coding T) (law : Lawful most-test-width k) where
   unfolding rule encode
   only-encodings code room xs s b h =
       let then : List ℕ → Outcome T (Sheet T) = λ body.
-            check (not (eqb (length body) 2)) (fault Length 0)
-            (check (not (eqb (getD body 0 0) code)) (fault Kind 3)
-            (check (not (within 1 most-heads (getD body 1 0))) (fault Heads 4)
-            (check (eqb (length xs) 5) (fault Bare 5)
-            (into (λ ss. record { code = getD body 0 0; heads = getD body 1 0; signatures = ss })
-            (signatures-read k room (getD body 1 0) most-signatures 0 0 5 (drop 5 xs)))))) in
+      check (not (eqb (length body) 2)) (fault Length 0)
+      (check (not (eqb (getD body 0 0) code)) (fault Kind 3)
+      (check (not (within 1 most-heads (getD body 1 0))) (fault Heads 4)
+      (check (eqb (length xs) 5) (fault Bare 5)
+      (into (λ ss. record { code = getD body 0 0; heads = getD body 1 0; signatures = ss })
+      (signatures-read k room (getD body 1 0) most-signatures 0 0 5 (drop 5 xs)))))) in
       let p = on-ok (field-read 1 0 xs) then s h in
       let body = p .0 in
       let f = field-only 1 0 xs body b (p .1) in

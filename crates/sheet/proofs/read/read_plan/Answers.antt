@@ -15,7 +15,7 @@ returns-in-Break-head g c =
     rw (p .1, p .2) (plan-stop _ (c .args .store .now) (rule-cut (g .K·Kind .facts .code) (g .K·Kind .facts .tests) (length (c .args .store .now)) (c .args .bytes .now) (c .in-Break-head .field-0 .0) (c .in-Break-head .ensures tt)))
 
 pub returns-in-rest : need.returns-in-rest
-returns-in-rest g c = plan-stop _ (c .args .store .now) (stopped _ (c .at .ensures) (rule-size (g .K·Kind .facts .code) (g .K·Kind .facts .tests) (length (c .args .store .now)) (c .args .bytes .now) (c .in-Continue-head .head .now) (c .in-Continue-head .ensures tt)  (λ e. omega (arith, ltb-true, ltb-false))))
+returns-in-rest g c = plan-stop _ (c .args .store .now) (stopped _ (c .at .ensures) (rule-size (g .K·Kind .facts .code) (g .K·Kind .facts .tests) (length (c .args .store .now)) (c .args .bytes .now) (c .in-Continue-head .head .now) (c .in-Continue-head .ensures tt) (λ e. omega (arith, ltb-true, ltb-false))))
 
 pub returns-then-code-kind-code : need.returns-then-code-kind-code
 returns-then-code-kind-code g c = plan-stop _ (c .args .store .now) (stopped _ (c .at-then-code-kind-code .ensures) (rule-code (g .K·Kind .facts .code) (g .K·Kind .facts .tests) (length (c .args .store .now)) (c .args .bytes .now) (c .in-Continue-head .head .now) (c .in-Continue-head .ensures tt) (omega (arith, ltb-true, ltb-false)) (λ e. c .if-code-kind-code .taken (e ∙ sym (c .kind-code .ensures)))))

@@ -13,7 +13,7 @@ use Rattle.sheet.proofs.signature.read_signature.Needs as need
 pub returns-in-rest : need.returns-in-rest
 returns-in-rest g c =
     refused (c .args .used) (c .args .store .now)
-    (stopped _ (c .at .ensures) (ap (into (entry (c .args .used))) (signature-short (g .K·Kind .facts .tests) (length (c .args .store .now)) (c .args .heads) (c .args .least) (c .args .used) (c .args .at) (c .args .body .now)  (omega (arith, ltb-true, ltb-false)))))
+    (stopped _ (c .at .ensures) (ap (into (entry (c .args .used))) (signature-short (g .K·Kind .facts .tests) (length (c .args .store .now)) (c .args .heads) (c .args .least) (c .args .used) (c .args .at) (c .args .body .now) (omega (arith, ltb-true, ltb-false)))))
 
 pub returns-then-name-least : need.returns-then-name-least
 returns-then-name-least g c =

@@ -17,7 +17,7 @@ returns-in-Break-tests g c =
     let p = err-from-errBy (c .from-residual .result) (c .from-residual .ensures .1) in
     let k = g .K·Kind .facts .tests in
     let bad = track-bad k (c .args .frames) (c .args .at) (c .args .rest .now) (c .pre .long) (c .in-Break-tests .field-0 .0)
-          (c .in-Break-tests .ensures tt ∙ ap (λ w. track-in (c .args .at) (c .args .frames * w) (c .args .rest .now)) (c .test-width .ensures)) in
+    (c .in-Break-tests .ensures tt ∙ ap (λ w. track-in (c .args .at) (c .args .frames * w) (c .args .rest .now)) (c .test-width .ensures)) in
     rw (p .1, p .2) (refused (c .args .from) (c .args .store .now) (ap bare bad))
 
 pub returns-in-Track : need.returns-in-Track
@@ -25,9 +25,9 @@ returns-in-Track g c =
     let k = g .K·Kind .facts .tests in
     let m = c .args .frames in
     let good = track-good k m (c .args .at) (c .args .rest .now) (c .pre .long) (c .in-Track .tests .now) (c .in-Track .place)
-          (ap (λ f. Ok (part f)) (sym (c .in-Track .is)) ∙ c .in-Continue-tests .ensures tt ∙ ap (λ w. track-in (c .args .at) (m * w) (c .args .rest .now)) (c .test-width .ensures)) in
+    (ap (λ f. Ok (part f)) (sym (c .in-Track .is)) ∙ c .in-Continue-tests .ensures tt ∙ ap (λ w. track-in (c .args .at) (m * w) (c .args .rest .now)) (c .test-width .ensures)) in
     let own : tests-read k m (c .in-Track .place + 3) (c .in-Track .tests .now) ≡ tests-read k m (c .args .at + 3) (drop 3 (c .args .rest .now)) =
-          ap (λ p. tests-read k m (p + 3) (c .in-Track .tests .now)) (good .1)
-          ∙ ap (tests-read k m (c .args .at + 3)) (good .0)
-          ∙ tests-own k m (c .args .at + 3) (drop 3 (c .args .rest .now)) in
+    ap (λ p. tests-read k m (p + 3) (c .in-Track .tests .now)) (good .1)
+    ∙ ap (tests-read k m (c .args .at + 3)) (good .0)
+    ∙ tests-own k m (c .args .at + 3) (drop 3 (c .args .rest .now)) in
     left-is (ap bare (good .2 ∙ sym own)) (c .read-tests .ensures)
