@@ -1,4 +1,12 @@
 // The text of a sheet file.
+ghost use mathlib.Core.Path.{_≡_};
+ghost use lib.ListN.{length};
+ghost use Rattle.std.specs.Of.String.{string-bytes};
+ghost use Rattle.std.specs.Vec.{made};
+ghost use Rattle.kinds.specs.Known.{picked};
+ghost use Rattle.sheetfile.specs.Card.{told};
+ghost use Rattle.sheetfile.specs.Reading.{rule};
+ghost use Rattle.describe.specs.Texts.{fault-line, Begins, Tells, Tells-file};
 use crate::figures::BandSetFigures;
 use crate::figures::ClimateTestFigures;
 use crate::figures::Figures;
@@ -21,6 +29,7 @@ use sheet::plan::Plan;
 use sheet::read_sheet;
 use sheetfile::fault::Fault;
 use sheetfile::limits::MOST_TESTS;
+use std::alloc::AllocError;
 use std::alloc::Global;
 use std::fmt;
 use std::fmt::Write;
@@ -48,56 +57,73 @@ fn put_signature<T: Figures>(out: &mut String, entry: &Entry, store: &[T]) -> fm
 }
 
 // What a sheet that was read says.
-fn put_sheet<T: Figures>(out: &mut String, kind: &str, plan: &Plan, store: &[T]) -> fmt::Result {
+fn sheet_words<T: Figures>(heap: Global, kind: &str, plan: &Plan, store: &[T]) -> Result<String, fmt::Error> {
+    let mut out = String::new(heap);
     let heads = plan.heads();
     writeln!(out, "kind {kind}")?;
     writeln!(out, "heads {heads}")?;
     for entry in plan.entries() {
-        put_signature(out, entry, store)?;
+        put_signature(&mut out, entry, store)?;
     }
-    Ok(())
+    Ok(out)
+}
+
+// The line of a fault: `fault NUMBER LAYER PLACE`.
+fn fault_figures(heap: Global, fault: &Fault) -> Result<String, AllocError>
+    ensures { λ r. ⌜ made r (λ t. string-bytes t ≡ fault-line (told (now (fault .entry)))) ⌝ }
+{
+    let number = fault.cause.number();
+    let layer = fault.cause.layer().number();
+    let place = fault.place;
+    format!(heap, "fault {number} {layer} {place}\n")
 }
 
 // What is wrong: a line of figures, and a line of words.
-fn put_fault(out: &mut String, fault: &Fault) -> fmt::Result {
-    let cause = fault.cause;
-    let number = cause.number();
-    let layer = cause.layer().number();
+fn fault_words(heap: Global, fault: &Fault) -> Result<String, AllocError>
+    ensures { λ r. ⌜ made r (λ t. Begins (fault-line (told (now (fault .entry)))) (string-bytes t)) ⌝ }
+{
+    let mut out = fault_figures(heap, fault)?;
+    out.push_str(words(fault.cause))?;
     let place = fault.place;
-    writeln!(out, "fault {number} {layer} {place}")?;
-    let said = words(cause);
-    writeln!(out, "{said} at byte {place}")
+    let at = format!(heap, " at byte {place}\n")?;
+    out.push_str(at.as_str())?;
+    Ok(out)
 }
 
-// Reads the file as this kind's, and puts what it says or what is wrong with it.
-fn put_file<K: Kind>(
-    out: &mut String,
+// What the file says when it is read as this kind's, or what is wrong with it.
+fn file_words<K: Kind>(
+    heap: Global,
     kind: K,
     named: &str,
     bytes: &[u8],
     store: &mut [K::Test],
-) -> fmt::Result
+) -> Result<String, fmt::Error>
 where
     K::Test: Figures,
+    ensures { λ r. ⌜ made r (λ t. Tells (rule (facts .code) (facts .tests) (length (now (store .entry))) (now (bytes .entry)) .end) (string-bytes t)) ⌝ }
 {
     let mut plan = Plan::empty();
     match read_sheet(kind, bytes, &mut plan, store) {
-        Ok(()) => put_sheet(out, named, &plan, store),
-        Err(fault) => put_fault(out, &fault),
+        Ok(()) => sheet_words(heap, named, &plan, store),
+        Err(fault) => match fault_words(heap, &fault) {
+            Ok(text) => Ok(text),
+            Err(_) => Err(fmt::Error),
+        },
     }
 }
 
-// The text of the sheet file `bytes`, for people.
-pub fn sheet_text(heap: Global, bytes: &[u8]) -> Result<String, fmt::Error> {
-    let mut out = String::new(heap);
+// The text of the sheet file `bytes`, for people: what it says, or the fault and what it means.
+pub fn sheet_text(heap: Global, bytes: &[u8]) -> Result<String, fmt::Error>
+    ensures { λ r. ⌜ made r (λ t. Tells-file (picked (now (bytes .entry))) (now (bytes .entry)) (string-bytes t)) ⌝ }
+{
     match KnownKind::of_sheet(bytes) {
         KnownKind::Band => {
             let mut store = [BandSet { bits: 0 }; MOST_TESTS];
-            put_file(&mut out, Band, "band", bytes, &mut store)?;
+            file_words(heap, Band, "band", bytes, &mut store)
         }
         KnownKind::Span => {
             let mut store = [MoistureSpan { low: 0, high: 0 }; MOST_TESTS];
-            put_file(&mut out, Span, "span", bytes, &mut store)?;
+            file_words(heap, Span, "span", bytes, &mut store)
         }
         KnownKind::Climate => {
             let moisture = MoistureSpan { low: 0, high: 0 };
@@ -107,8 +133,7 @@ pub fn sheet_text(heap: Global, bytes: &[u8]) -> Result<String, fmt::Error> {
                 temperature,
             };
             let mut store = [blank; MOST_TESTS];
-            put_file(&mut out, Climate, "climate", bytes, &mut store)?;
+            file_words(heap, Climate, "climate", bytes, &mut store)
         }
     }
-    Ok(out)
 }

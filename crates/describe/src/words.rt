@@ -2,7 +2,7 @@
 use sheetfile::fault::Cause;
 
 // What is wrong, in words that the place can follow.
-pub fn words(cause: Cause) -> &'static str {
+pub(crate) fn words(cause: Cause) -> &'static str {
     match cause {
         Cause::Cut =>
             "cut: a field has under 3 bytes, or its body goes past the end; the field starts",

@@ -16,7 +16,7 @@ use sheetfile::limits::LEAST_FRAMES;
 use sheetfile::limits::MOST_FRAMES;
 
 // Whether n is low to high, both ends within.
-pub fn is_within(low: usize, high: usize, n: usize) -> bool
+pub(crate) fn is_within(low: usize, high: usize, n: usize) -> bool
     ensures { λ r. ⌜ r ≡ within low high n ⌝ }
 {
     low <= n && n <= high
@@ -24,7 +24,7 @@ pub fn is_within(low: usize, high: usize, n: usize) -> bool
 
 // Reads the signature with this body, whose field stands at `at`: its name is `least` or above,
 // and its tests go into the store from `used` on.
-pub fn read_signature<K: Kind>(
+pub(crate) fn read_signature<K: Kind>(
     kind: K,
     body: &[u8],
     at: usize,

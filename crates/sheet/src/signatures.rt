@@ -15,7 +15,7 @@ use sheetfile::field::signature_body;
 
 // Reads all signatures of `bytes`, which stands at `at`: as many as there are entries, at most.
 // Says how many entries it filled.
-pub fn read_signatures<K: Kind>(
+pub(crate) fn read_signatures<K: Kind>(
     kind: K,
     bytes: &[u8],
     at: usize,

@@ -62,7 +62,7 @@ fn read_track<K: Kind>(
 }
 
 // Reads `tracks` tracks from the front of `body`, one after another.
-pub fn read_tracks<K: Kind>(
+pub(crate) fn read_tracks<K: Kind>(
     kind: K,
     body: &[u8],
     at: usize,
