@@ -1,0 +1,17 @@
+pub mod Counting
+pub mod Least
+pub mod Sets
+pub mod Words
+pub mod Rows
+pub mod Heads
+pub mod Onward
+pub mod Shortness
+pub mod Seats
+pub mod First
+pub mod Hall
+pub mod Rightness
+pub mod Local
+pub mod Renaming
+pub mod Deficiency
+pub mod Cut
+pub mod Outcomes

@@ -1,0 +1,14 @@
+pub mod Count
+pub mod Sets
+pub mod Fitting
+pub mod Placings
+pub mod Short
+pub mod Search
+pub mod Answer
+pub mod Renaming
+pub mod Deficiency
+pub mod Theorems
+pub mod Limits
+pub mod Meaning
+pub mod Promises
+pub mod Onward
