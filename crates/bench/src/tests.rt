@@ -25,7 +25,7 @@ use std::alloc::Global;
 use std::test::*;
 
 // One signature, 301, of two tracks and two frames, on two heads.
-const GOOD: [u8; 26] = [
+pub(crate) const GOOD: [u8; 26] = [
     0x01,
     0x00,
     0x02,

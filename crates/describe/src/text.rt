@@ -57,7 +57,12 @@ fn put_signature<T: Figures>(out: &mut String, entry: &Entry, store: &[T]) -> fm
 }
 
 // What a sheet that was read says.
-fn sheet_words<T: Figures>(heap: Global, kind: &str, plan: &Plan, store: &[T]) -> Result<String, fmt::Error> {
+fn sheet_words<T: Figures>(
+    heap: Global,
+    kind: &str,
+    plan: &Plan,
+    store: &[T],
+) -> Result<String, fmt::Error> {
     let mut out = String::new(heap);
     let heads = plan.heads();
     writeln!(out, "kind {kind}")?;

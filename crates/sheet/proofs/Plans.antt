@@ -11,7 +11,7 @@ use Rattle.std.proofs.shelf.Tests.{cases-lt}
 use Rattle.std.proofs.shelf.Lists.{append-assoc, drop-drop, take-at, drop-at}
 use Rattle.kinds.specs.Codings.{Coding, Lawful}
 use Rattle.kinds.specs.Kinds.{most-test-width}
-use Rattle.sheetfile.specs.Limits.{most-signatures}
+use Rattle.sheetfile.specs.Limits.{most-heads, most-signatures}
 use Rattle.sheetfile.specs.Sheets.{Signature, Sheet, Each, Signature-within, Within, test-count, all-tests, tests-of, Track-within}
 use Rattle.sheetfile.proofs.Back.{tests-long}
 use Rattle.sheet.specs.declared.entry.Entry.{Entry}
@@ -29,6 +29,14 @@ few-entries code heads count entries kept =
     (λ more. absurd (∥∥₁-elim kept ⊥-prop (⊎-elim (λ e. omega (arith, e .no-entries)) (λ l. omega (arith, l .few-entries)))))
     (λ few. few)
     (cases-lt most-signatures count)
+
+-- and at most as many heads as a line may have
+pub few-heads : (code heads count : ℕ) (entries : List Entry) → Kept code heads count entries → heads ≤ most-heads
+few-heads code heads count entries kept =
+    ⊎-elim
+    (λ more. absurd (∥∥₁-elim kept ⊥-prop (⊎-elim (λ e. omega (arith, e .no-heads)) (λ l. omega (arith, l .few-heads)))))
+    (λ few. few)
+    (cases-lt most-heads heads)
 
 module _ {T : Type 0} where
   -- what is joined is cut again into the same pieces

@@ -1,5 +1,6 @@
 // Making a plan, and asking it.
 ghost use mathlib.Core.Path.{_≡_};
+ghost use lib.Dec.{eqb};
 ghost use lib.ListN.{take};
 ghost use Rattle.sheet.specs.Plans.{Kept};
 ghost use Rattle.sheet.specs.Filled.{Says-nothing};
@@ -39,6 +40,13 @@ impl Plan {
             count,
             entries,
         }
+    }
+
+    // Whether it is the empty plan.
+    pub fn is_empty(&self) -> bool
+        ensures { λ r. ⌜ r ≡ eqb (now (self .entry) .count) 0 ⌝ }
+    {
+        self.count == 0
     }
 
     // The code of the sheet's kind; 0 for the empty plan.

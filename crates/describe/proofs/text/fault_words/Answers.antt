@@ -8,8 +8,9 @@ pub returns : need.returns
 returns c =
     let line = fault-line (told (c .args .fault .now)) in
     let said = c .words .result .now in
-    let at = c .as-str .result .now in
-    (said ++ at,
-    c .in-Continue-push-str-2 .ensures tt .bytes
-    ∙ ap (λ xs. xs ++ at) (c .in-Continue-push-str .ensures tt .bytes ∙ ap (λ xs. xs ++ said) (c .in-Continue-out .ensures tt))
-    ∙ append-assoc line said at)
+    let at = c .as-str .result .now in (
+      said ++ at,
+      c .in-Continue-push-str-2 .ensures tt .bytes
+          ∙ ap (λ xs. xs ++ at) (c .in-Continue-push-str .ensures tt .bytes ∙ ap (λ xs. xs ++ said) (c .in-Continue-out .ensures tt))
+          ∙ append-assoc line said at,
+    )

@@ -1,0 +1,4 @@
+pub mod Words
+pub mod Agreement
+pub mod Steps
+pub mod Tables

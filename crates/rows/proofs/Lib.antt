@@ -1,0 +1,5 @@
+pub mod Histories
+pub mod Bits
+pub mod Lowest
+pub mod Trying
+pub mod Telling

@@ -1,0 +1,5 @@
+pub mod Frames
+pub mod Verdicts
+pub mod Plugs
+pub mod Calls
+pub mod Theorems
