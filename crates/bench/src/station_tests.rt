@@ -34,7 +34,7 @@ fn said(answer: Result<Verdict, Refusal>, word: &str, number: u8) -> Result<(), 
     }
 }
 
-// The demo run: seen after frames 2 and 4, across a gap; after frame 5 short, set 1.
+// The demo run: seen after frames 2 and 4, across a gap; after frame 5 short, set 1. Looks and rechecks say the same.
 #[test]
 fn demo_run() -> Result<(), Fail> {
     let mut tests = [BandSet { bits: 0 }; 4];
@@ -42,17 +42,23 @@ fn demo_run() -> Result<(), Fail> {
     check(read_sheet(Band, &GOOD, &mut plan, &mut tests).is_ok())?;
     let mut memory = [0u8; 128];
     let mut line = Station::new(Band, &plan, &tests, &mut memory);
+    said(line.recheck(0), "young", 0)?;
     said(line.look(0), "young", 0)?;
     check(line.feed(&[0, 1]).is_ok())?;
+    said(line.recheck(0), "young", 0)?;
     said(line.look(0), "young", 0)?;
     check(line.feed(&[1, 2]).is_ok())?;
+    said(line.recheck(0), "seen", 1)?;
     said(line.look(0), "seen", 1)?;
     line.gap();
+    said(line.recheck(0), "young", 0)?;
     said(line.look(0), "young", 0)?;
     check(line.feed(&[1, 0]).is_ok())?;
     check(line.feed(&[2, 0]).is_ok())?;
+    said(line.recheck(0), "seen", 0)?;
     said(line.look(0), "seen", 0)?;
     check(line.feed(&[2, 1]).is_ok())?;
+    said(line.recheck(0), "short", 1)?;
     said(line.look(0), "short", 1)
 }
 
@@ -69,6 +75,7 @@ fn refusals() -> Result<(), Fail> {
     check_eq(line.feed(&[16, 16]), Err(Refusal::Reading(0)))?;
     check_eq(line.feed(&[3, 16]), Err(Refusal::Reading(1)))?;
     check(line.look(1).is_err())?;
+    check(line.recheck(1).is_err())?;
     check_eq(line.look_back(0, 2), Err(Refusal::Head))?;
     check_eq(line.look_back(999, 2), Err(Refusal::Head))?;
     check_eq(line.look_back(0, 1), Ok(None))?;
@@ -91,10 +98,13 @@ fn one_of_each() -> Result<(), Fail> {
     check(read_sheet(Span, &ONE, &mut plan, &mut tests).is_ok())?;
     let mut memory = [0u16; 64];
     let mut line = Station::new(Span, &plan, &tests, &mut memory);
+    said(line.recheck(0), "young", 0)?;
     said(line.look(0), "young", 0)?;
     check(line.feed(&[600]).is_ok())?;
+    said(line.recheck(0), "seen", 0)?;
     said(line.look(0), "seen", 0)?;
     check(line.feed(&[599]).is_ok())?;
+    said(line.recheck(0), "short", 1)?;
     said(line.look(0), "short", 1)
 }
 

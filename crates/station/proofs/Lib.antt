@@ -4,5 +4,7 @@ pub mod Feeding
 pub mod Keeping
 pub mod Entries
 pub mod Made
+pub mod Tailing
+pub mod Rechecking
 pub mod Looking
 pub mod Law

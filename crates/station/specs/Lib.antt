@@ -6,3 +6,4 @@ pub mod Promises
 pub mod Law
 pub mod Snap
 pub mod Making
+pub mod Rechecks
