@@ -1,4 +1,6 @@
 // A bank of rows: for each signature, track and head the begun matches.
+#![tactic(auto)]
+
 ghost use Rattle.std.specs.Prelude.{◌≡◌, ℕ, List, [], ◌∷◌, map, length, Some, MatchOption};
 ghost use Rattle.std.specs.List.{slice_get};
 ghost use Rattle.runs.specs.Verdicts.{fits};

@@ -1,4 +1,6 @@
 // The customer's worked lines: two tables to be proved, of sheets and kinds and of a station; the others compared by the tests.
+#![tactic(auto)]
+
 ghost use Rattle.bench.specs.Bench.{WorkedLines};
 ghost use Rattle.bench.specs.StationLines.{StationLines};
 

@@ -1,4 +1,6 @@
 // The files that the programs read.
+#![tactic(auto)]
+
 use std::io::{ErrorKind, Read};
 use std::{fs, io};
 

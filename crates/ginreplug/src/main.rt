@@ -1,5 +1,7 @@
 // ginreplug: reads sheet.gin in the current folder and a recorded run on standard input, plugs the heads in every order,
 // and prints what each order sees, and whether every verdict agrees.
+#![tactic(auto)]
+
 use anyhow::anyhow;
 use ginfiles::sheet_bytes;
 use replug::text::replug_text;

@@ -1,4 +1,6 @@
 // ginsheet: reads sheet.gin in the current folder and prints what it says, or what is wrong with it and where.
+#![tactic(auto)]
+
 use describe::print_sheet;
 
 fn main(rt: HostRuntime) -> anyhow::Result<()> {

@@ -1,9 +1,8 @@
 -- The laws of the band kind. Assumes nothing.
-use Rattle.std.specs.Prelude.{◌≡◌, ℕ, ◌<◌, ◌≤◌, true, List, [], ◌∷◌, nat_lt, slice_index, refl}
+use Rattle.std.specs.Prelude.{◌≡◌, ℕ, List, [], ◌∷◌, nat_lt, slice_index, refl}
 use Rattle.std.proofs.Common.{ap, ◌∙◌, arith}
 use Rattle.std.proofs.lemmas.Bool.{ltb-true, leb-true, lt-ltb, and_from, and_parts}
-use Rattle.kinds.specs.declared.band.BandSet.{BandSet}
-use Rattle.kinds.specs.Bytes.{sized, pair}
+use Rattle.kinds.specs.Bytes.{pair}
 use Rattle.kinds.specs.Codings.{Lawful}
 use Rattle.kinds.specs.Kinds.{most_test_width, most_reading_width}
 use Rattle.kinds.specs.Bands.{set_sound, set_at, band_tests, band_lawful, band_readings, most_band}

@@ -1,17 +1,14 @@
 -- The laws of the climate kind. Assumes nothing.
-use Rattle.std.specs.Prelude.{◌≡◌, ℕ, suc, ◌+◌, ◌-◌, ◌*◌, ◌<◌, ◌≤◌, true, false, cond, ◌&&◌, List, [], ◌∷◌, ◌++◌, ℤ, pos, negsuc, int_le, slice_index, refl}
-use Rattle.std.proofs.Common.{sym, ap, ◌∙◌, arith, to_z, of_z}
+use Rattle.std.specs.Prelude.{◌≡◌, ℕ, suc, ◌+◌, ◌-◌, ◌<◌, true, ◌&&◌, List, [], ◌∷◌, ◌++◌, ℤ, pos, negsuc, int_le, slice_index, refl}
+use Rattle.std.proofs.Common.{ap, ◌∙◌, arith, to_z, of_z}
 use Rattle.std.specs.Int.{w16}
 use Rattle.std.proofs.lemmas.Int.{ints}
-use Rattle.std.proofs.lemmas.Bool.{leb-true, ltb-true, ltb-false, lt-ltb, le-ltb, and_parts, cond-true, cond-false}
-use Rattle.kinds.specs.declared.span.MoistureSpan.{MoistureSpan}
-use Rattle.kinds.specs.declared.climate.ClimateReading.{ClimateReading}
-use Rattle.kinds.specs.declared.climate.ClimateTest.{ClimateTest}
+use Rattle.std.proofs.lemmas.Bool.{leb-true, lt-ltb, le-ltb, and_parts, cond-true, cond-false}
 use Rattle.kinds.specs.declared.climate.TemperatureSpan.{TemperatureSpan}
-use Rattle.kinds.specs.Bytes.{sized, pair, word, octets}
+use Rattle.kinds.specs.Bytes.{sized, pair, word}
 use Rattle.kinds.specs.Codings.{Lawful}
 use Rattle.kinds.specs.Kinds.{most_test_width, most_reading_width}
-use Rattle.kinds.specs.Spans.{moisture_lawful, most_moisture, span_sound, span_bytes, span_at}
+use Rattle.kinds.specs.Spans.{moisture_lawful, most_moisture, span_sound}
 use Rattle.kinds.specs.Climates.{least_temperature, most_temperature, temperature_lawful, to_bits, of_bits, temperatures_sound, temperatures_bytes, temperatures_at, climate_sound, climate_bytes, climate_at, climate_tests, climate_lawful, reading_bytes, reading_at, climate_readings}
 use Rattle.kinds.specs.BytesLemmas.{Octets, each_octet, sized_from, pair_at, word_small, pair_octets, word_of}
 use Rattle.kinds.specs.SpansLemmas.{span_fits, span_back}

@@ -1,9 +1,9 @@
 -- The laws of a fixed coding, from what its bytes and values say of each other. Assumes nothing.
-use Rattle.std.specs.Prelude.{◌≡◌, ℕ, ◌≤◌, Bool, true, false, cond, ◌&&◌, List, Some, None, Option, refl}
+use Rattle.std.specs.Prelude.{◌≡◌, ℕ, ◌≤◌, Bool, true, false, cond, ◌&&◌, List, Some, None, refl}
 use Rattle.std.proofs.Common.{sym, ap, ◌∙◌, arith}
 use Rattle.std.proofs.lemmas.Bool.{and_parts}
 use Rattle.kinds.specs.Bytes.{sized}
-use Rattle.kinds.specs.Codings.{Coding, Lawful, fixed}
+use Rattle.kinds.specs.Codings.{Lawful, fixed}
 use Rattle.kinds.specs.BytesLemmas.{sized_parts}
 
 -- a value that came out of a test is the one that was tested

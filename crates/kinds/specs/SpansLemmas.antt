@@ -1,9 +1,9 @@
 -- The laws of the span kind. Assumes nothing.
-use Rattle.std.specs.Prelude.{◌≡◌, ℕ, ◌+◌, ◌*◌, ◌<◌, ◌≤◌, true, List, [], ◌∷◌, ◌++◌, nat_le, slice_index, refl}
+use Rattle.std.specs.Prelude.{◌≡◌, ℕ, ◌<◌, true, List, [], ◌∷◌, ◌++◌, nat_le, slice_index, refl}
 use Rattle.std.proofs.Common.{ap, ◌∙◌, arith}
 use Rattle.std.proofs.lemmas.Bool.{leb-true, and_parts}
 use Rattle.kinds.specs.declared.span.MoistureSpan.{MoistureSpan}
-use Rattle.kinds.specs.Bytes.{sized, pair, word}
+use Rattle.kinds.specs.Bytes.{pair, word}
 use Rattle.kinds.specs.Codings.{Lawful}
 use Rattle.kinds.specs.Kinds.{most_test_width, most_reading_width}
 use Rattle.kinds.specs.Spans.{moisture_lawful, most_moisture, span_sound, span_bytes, span_at, span_tests, span_readings}

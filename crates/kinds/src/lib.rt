@@ -1,4 +1,6 @@
 // Kinds of reading: what a head reads, how a sheet tests it, and how both are written as bytes.
+#![tactic(auto)]
+
 pub mod band;
 pub mod buffer;
 pub mod climate;

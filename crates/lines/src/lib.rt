@@ -1,4 +1,6 @@
 // The lines of a listing, as bytes.
+#![tactic(auto)]
+
 ghost use Rattle.std.specs.Prelude.{◌≡◌, [], ◌∷◌, ◌++◌, decimal, OnOk};
 ghost use Rattle.sheetfile.specs.Card.{told};
 ghost use Rattle.lines.specs.Lines.{spaced, figures, report_line, end_line, fault_line};

@@ -1,6 +1,8 @@
 //! Can these tracks stand on different heads? With the first placing if so, and with the least short set of tracks if not.
 //!
 //! `Fits` says which head fits which track, and `Fits::outcome` answers. There is no allocation, and no call asks anything of its caller.
+#![tactic(auto)]
+
 mod fits;
 mod outcome;
 mod placing;

@@ -1,5 +1,7 @@
 //! Writes the outcome of every relation of at most three tracks on at most three heads, a line for each.
 //! The file `stdout` has the lines that are expected: `brute_table.py` makes them by brute force, without this code.
+#![tactic(auto)]
+
 ghost use Rattle.std.specs.Prelude.{◌<◌};
 
 use matching::{Fits, Outcome};

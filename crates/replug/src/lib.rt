@@ -1,4 +1,6 @@
 // The same line plugged in another order.
+#![tactic(auto)]
+
 pub mod order;
 mod plugs;
 pub mod showing;

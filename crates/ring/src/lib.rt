@@ -1,4 +1,6 @@
 // A ring of the latest items, over slots that its owner lends.
+#![tactic(auto)]
+
 ghost use Rattle.std.specs.Prelude.{◌≡◌, min, [], ◌∷◌, ◌++◌, reverse, length, take};
 ghost use Rattle.std.specs.List.{slice_get};
 ghost use Rattle.ring.specs.Rings.{holds, unused, Good};

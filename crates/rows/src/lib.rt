@@ -1,4 +1,6 @@
 // The begun matches of one track on one head, as the bits of a word.
+#![tactic(auto)]
+
 ghost use Rattle.std.specs.Prelude.{◌≡◌, ◌≤◌, List, [], ◌∷◌, length};
 ghost use Rattle.rows.specs.Matches.{passed_last, Tells};
 

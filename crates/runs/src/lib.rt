@@ -1,4 +1,6 @@
 // Runs of frames: the verdict on them, and what lists of calls leave of them.
+#![tactic(auto)]
+
 ghost use Rattle.runs.specs.Theorems.{RunLaws};
 
 use kinds::kind::Kind;

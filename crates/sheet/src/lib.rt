@@ -1,4 +1,6 @@
 // Reading a sheet file into a plan and a test store, for any kind.
+#![tactic(auto)]
+
 pub mod entry;
 pub mod plan;
 mod read;

@@ -1,4 +1,6 @@
 // The station: it watches a line for the signatures of a sheet, however the heads are plugged in.
+#![tactic(auto)]
+
 pub mod call;
 mod judging;
 pub mod making;

@@ -12,6 +12,8 @@
 //!     back Q H       head H, Q frames back            the reading as HEX | absent | refused 34
 //!
 //! HEX is pairs of digits, and `-` for no bytes. After a fault the station is the one of the empty plan.
+#![tactic(auto)]
+
 mod answers;
 mod hex;
 mod readings;

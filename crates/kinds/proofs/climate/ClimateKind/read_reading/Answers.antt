@@ -6,16 +6,16 @@ use Rattle.kinds.specs.ClimatesLemmas.{reading_is}
 use Rattle.kinds.specs.CodingsLemmas.{fixed_some, fixed_none}
 use Rattle.kinds.proofs.climate.ClimateKind.read_reading.Goals as goal
 
-pub returns-then-is-lawful : goal.returns-then-is-lawful
-returns-then-is-lawful c =
+pub returns-then-is_lawful : goal.returns-then-is_lawful
+returns-then-is_lawful c =
     let bs = c.args.bytes.now in
-    let all : sized 4 bs ≡ true = sized_of 4 bs (omega (arith, ltb-true, ltb-false)) (λ i. let f = c.type-inv.bytes i in omega arith) in
-    let is = reading_is bs _ _ all c.from-be-bytes.ensures c.from-be-bytes-2.ensures in
-    sym (fixed_some 4 climate_lawful reading_bytes reading_at bs _ all is (sym c.if-is-lawful.ensures))
+    let all : sized 4 bs ≡ true = sized_of 4 bs (omega (arith, ltb-true, ltb-false)) (λ i. let f = c.type_inv.bytes i in omega arith) in
+    let is = reading_is bs _ _ all c.from_be_bytes.ensures c.from_be_bytes-2.ensures in
+    sym (fixed_some 4 climate_lawful reading_bytes reading_at bs _ all is (sym c.if-is_lawful.ensures))
 
-pub returns-else-is-lawful : goal.returns-else-is-lawful
-returns-else-is-lawful c =
+pub returns-else-is_lawful : goal.returns-else-is_lawful
+returns-else-is_lawful c =
     let bs = c.args.bytes.now in
-    let all : sized 4 bs ≡ true = sized_of 4 bs (omega (arith, ltb-true, ltb-false)) (λ i. let f = c.type-inv.bytes i in omega arith) in
-    let is = reading_is bs _ _ all c.from-be-bytes.ensures c.from-be-bytes-2.ensures in
-    sym (fixed_none 4 climate_lawful reading_bytes reading_at bs _ all is (sym c.if-is-lawful.ensures))
+    let all : sized 4 bs ≡ true = sized_of 4 bs (omega (arith, ltb-true, ltb-false)) (λ i. let f = c.type_inv.bytes i in omega arith) in
+    let is = reading_is bs _ _ all c.from_be_bytes.ensures c.from_be_bytes-2.ensures in
+    sym (fixed_none 4 climate_lawful reading_bytes reading_at bs _ all is (sym c.if-is_lawful.ensures))
