@@ -18,4 +18,4 @@ returns-then-q-self g c ok =
 pub returns : goal.returns
 returns g c ok =
     let s = c.args.self.now in
-    c.item-at.ensures ∙ looked_back s.slots.now s.capacity s.next s.count c.args.q _ ok c.if-q-self.false c.place_back.ensures.near c.place_back.ensures.far
+    c.item_at.ensures ∙ looked_back s.slots.now s.capacity s.next s.count c.args.q _ ok c.if-q-self.false c.place_back.ensures.near c.place_back.ensures.far

@@ -24,9 +24,9 @@ returns g c =
     let s = c.args.self.now in
     record {
       good = λ ok. turn_sound s.slots.now s.capacity s.next s.count _ _ c.args.item ok c.if-i-self.false
-          c.place-after-self.ensures.on c.place-after-self.ensures.round c.one-more-self.ensures;
+          c.place_after-self.ensures.on c.place_after-self.ensures.round c.one_more-self.ensures;
       holds = λ ok. turn s.slots.now s.capacity s.next s.count _ _ c.args.item ok c.if-i-self.false
-          c.place-after-self.ensures.on c.place-after-self.ensures.round c.one-more-self.ensures;
+          c.place_after-self.ensures.on c.place_after-self.ensures.round c.one_more-self.ensures;
       unused = drop-set-lt _ _ _ _ c.if-i-self.false;
       capacity = refl;
       lent = refl;
