@@ -38,7 +38,7 @@ pub struct Bank {
 impl Bank {
     // No match is begun, as before any frame.
     pub fn new<K: Kind>(kind: K) -> Bank
-        ensures { (N : ℕ) (signatures : List (Signature K.Test)) → Agrees facts.passes N signatures [] result }
+        ensures { (N : ℕ) (signatures : List (Signature K.Test)) → Agrees K.facts.passes N signatures [] result }
     {
         let row = Row::new(kind);
         Bank { rows: [row; ROWS] }
@@ -52,7 +52,7 @@ impl Bank {
         tests: &[K::Test],
         frame: &[K::Reading],
     )
-        ensures { (run : List (List K.Reading)) → Fitted (length frame.now) (map (signature_said tests.now) entries.now) → Stored entries.now tests.now → Agrees facts.passes (length frame.now) (map (signature_said tests.now) entries.now) run self.old → Agrees facts.passes (length frame.now) (map (signature_said tests.now) entries.now) (frame.now ∷ run) self.new }
+        ensures { (run : List (List K.Reading)) → Fitted (length frame.now) (map (signature_said tests.now) entries.now) → Stored entries.now tests.now → Agrees K.facts.passes (length frame.now) (map (signature_said tests.now) entries.now) run self.old → Agrees K.facts.passes (length frame.now) (map (signature_said tests.now) entries.now) (frame.now ∷ run) self.new }
     {
         step_entries(kind, entries, tests, &mut self.rows, frame);
     }
@@ -66,7 +66,7 @@ impl Bank {
         entry: &Entry,
         heads: usize,
     ) -> Option<Fits>
-        ensures { (signatures : List (Signature K.Test)) (run : List (List K.Reading)) (s : Signature K.Test) → Fitted heads signatures → slice_get signatures position ≡ Some s → entry.now.tracks ≡ length s.tracks → entry.now.frames ≡ s.frames → Agrees facts.passes heads signatures run self.now → MatchOption result ⊥ (FitsShown (length s.tracks) heads (fits facts.passes s run)) }
+        ensures { (signatures : List (Signature K.Test)) (run : List (List K.Reading)) (s : Signature K.Test) → Fitted heads signatures → slice_get signatures position ≡ Some s → entry.now.tracks ≡ length s.tracks → entry.now.frames ≡ s.frames → Agrees K.facts.passes heads signatures run self.now → MatchOption result ⊥ (FitsShown (length s.tracks) heads (fits K.facts.passes s run)) }
     {
         let tracks = entry.tracks as usize;
         if position >= MOST_SIGNATURES || tracks > MOST_HEADS || heads > MOST_HEADS {

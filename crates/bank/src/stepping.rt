@@ -10,7 +10,7 @@ use sheetfile::limits::{MOST_HEADS, MOST_SIGNATURES};
 
 // The rows of one track, one for each head.
 fn step_track<K: Kind>(kind: K, tests: &[K::Test], rows: &mut [Row], frame: &[K::Reading])
-    ensures { TrackStepped facts.passes tests.now frame.now rows.old rows.new }
+    ensures { TrackStepped K.facts.passes tests.now frame.now rows.old rows.new }
 {
     let heads = rows.len().min(frame.len());
     for h in 0..heads {
@@ -28,7 +28,7 @@ fn step_tracks<K: Kind>(
     frame: &[K::Reading],
 )
     requires { (length rows.old ≡ 64) × (tracks * frames ≤ length tests.now) }
-    ensures { TracksStepped facts.passes tracks frames tests.now frame.now rows.old rows.new }
+    ensures { TracksStepped K.facts.passes tracks frames tests.now frame.now rows.old rows.new }
 {
     let count = tracks.min(MOST_HEADS);
     for t in 0..count {
@@ -52,7 +52,7 @@ fn step_entry<K: Kind>(
     frame: &[K::Reading],
 )
     requires { length rows.old ≡ 64 }
-    ensures { EntryStepped facts.passes tests.now entry.now frame.now rows.old rows.new }
+    ensures { EntryStepped K.facts.passes tests.now entry.now frame.now rows.old rows.new }
 {
     let Some(part) = entry.tests_in(tests) else {
         return;
@@ -76,7 +76,7 @@ pub(crate) fn step_entries<K: Kind>(
     frame: &[K::Reading],
 )
     requires { length rows.old ≡ 768 }
-    ensures { EntriesStepped facts.passes tests.now entries.now frame.now rows.old rows.new }
+    ensures { EntriesStepped K.facts.passes tests.now entries.now frame.now rows.old rows.new }
 {
     let count = entries.len().min(MOST_SIGNATURES);
     for p in 0..count {

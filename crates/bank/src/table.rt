@@ -11,7 +11,7 @@ use rows::Row;
 // The heads whose rows have a complete match of `frames` tests: bit h is set for head h.
 fn track_fits<K: Kind>(kind: K, frames: usize, heads: usize, rows: &[Row]) -> u8
     requires { (heads ≤ 8) × (heads ≤ length rows.now) }
-    ensures { TrackShown facts.passes frames heads rows.now result }
+    ensures { TrackShown K.facts.passes frames heads rows.now result }
 {
     let mut set = 0u8;
     for h in 0..heads {
@@ -25,7 +25,7 @@ fn track_fits<K: Kind>(kind: K, frames: usize, heads: usize, rows: &[Row]) -> u8
 // The same for each track, from eight rows for each, into the front of the table.
 fn fill_table<K: Kind>(kind: K, frames: usize, heads: usize, rows: &[Row], table: &mut [u8])
     requires { (heads ≤ 8) × (length table.old * 8 ≤ length rows.now) }
-    ensures { TableShown facts.passes frames heads (length table.old) rows.now table.new }
+    ensures { TableShown K.facts.passes frames heads (length table.old) rows.now table.new }
 {
     for t in 0..table.len() {
         let row = t * TRACK_ROWS;
@@ -42,7 +42,7 @@ pub(crate) fn signature_fits<K: Kind>(
     table: &mut [u8],
 ) -> Option<Fits>
     requires { (heads ≤ 8) × (length table.old * 8 ≤ length rows.now) }
-    ensures shown { TableShown facts.passes frames heads (length table.old) rows.now table.new }
+    ensures shown { TableShown K.facts.passes frames heads (length table.old) rows.now table.new }
     ensures made { MatchOption result (Within heads table.new → ⊥) (Made heads table.new) }
 {
     fill_table(kind, frames, heads, rows, table);

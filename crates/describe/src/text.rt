@@ -92,7 +92,7 @@ fn file_words<K: Kind>(
 ) -> Result<String, fmt::Error>
 where
     K::Test: Figures,
-    ensures { IfOk result (λ t. Tells (rule facts.code facts.tests (length store.old) bytes.now).end (string_bytes t)) }
+    ensures { IfOk result (λ t. Tells (rule K.facts.code K.facts.tests (length store.old) bytes.now).end (string_bytes t)) }
 {
     let mut plan = Plan::empty();
     match read_sheet(kind, bytes, &mut plan, store) {

@@ -51,7 +51,7 @@ pub(crate) fn put_reports<K: Kind>(
     latest: &mut Ring<'_, Report>,
     out: &mut Vec<u8>,
 ) -> Result<(), AllocError>
-    ensures { OnOk result ((N : ℕ) (sheet : List (Signature K.Test)) (run : List (List K.Reading)) → Following facts.readings.proper facts.passes N sheet run (snap station.now) → Adds (at_frame facts.passes N sheet frame run) latest.old latest.new × (out.new.items ≡ out.old.items ++ report_lines (at_frame facts.passes N sheet frame run))) }
+    ensures { OnOk result ((N : ℕ) (sheet : List (Signature K.Test)) (run : List (List K.Reading)) → Following K.facts.readings.proper K.facts.passes N sheet run (snap station.now) → Adds (at_frame K.facts.passes N sheet frame run) latest.old latest.new × (out.new.items ≡ out.old.items ++ report_lines (at_frame K.facts.passes N sheet frame run))) }
 {
     for (position, entry) in station.entries().iter().enumerate() {
         put_report(station.look(position), frame, entry.name, latest, out)?;

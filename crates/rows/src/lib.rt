@@ -20,14 +20,14 @@ pub struct Row {
 impl Row {
     // No match is begun, as before any reading.
     pub fn new<K: Kind>(_kind: K) -> Row
-        ensures { (tests : List K.Test) → Tells facts.passes tests [] result.word }
+        ensures { (tests : List K.Test) → Tells K.facts.passes tests [] result.word }
     {
         Row { word: 0 }
     }
 
     // One reading more. It tries the first test, and those that begun matches have come to.
     pub fn step<K: Kind>(&mut self, kind: K, tests: &[K::Test], reading: &K::Reading)
-        ensures { length tests.now ≤ 64 → (history : List K.Reading) → Tells facts.passes tests.now history self.old.word → Tells facts.passes tests.now (reading.now ∷ history) self.new.word }
+        ensures { length tests.now ≤ 64 → (history : List K.Reading) → Tells K.facts.passes tests.now history self.old.word → Tells K.facts.passes tests.now (reading.now ∷ history) self.new.word }
     {
         let begun = ((self.word << 1) | 1) & low_bits(tests.len());
         self.word = passing_places(kind, tests, begun, reading);
@@ -35,7 +35,7 @@ impl Row {
 
     // Whether the match of `frames` tests is complete at the latest reading; never of no tests or more than 64.
     pub fn fits<K: Kind>(&self, _kind: K, frames: usize) -> bool
-        ensures { (tests : List K.Test) (history : List K.Reading) → 1 ≤ length tests → length tests ≤ 64 → frames ≡ length tests → Tells facts.passes tests history self.now.word → result ≡ passed_last facts.passes tests history }
+        ensures { (tests : List K.Test) (history : List K.Reading) → 1 ≤ length tests → length tests ≤ 64 → frames ≡ length tests → Tells K.facts.passes tests history self.now.word → result ≡ passed_last K.facts.passes tests history }
     {
         if frames == 0 || frames > PLACES {
             return false;

@@ -28,7 +28,7 @@ pub(crate) fn passing_places<K: Kind>(
     reading: &K::Reading,
 ) -> u64
     requires { begun < 2 ^ length tests.now }
-    ensures { (i : ℕ) → bit i result ≡ (bit i begun && is_some_and (λ t. facts.passes t reading.now) (slice_get tests.now i)) }
+    ensures { (i : ℕ) → bit i result ≡ (bit i begun && is_some_and (λ t. K.facts.passes t reading.now) (slice_get tests.now i)) }
 {
     let mut left = begun;
     let mut next: u64 = 0;

@@ -14,7 +14,7 @@ use sheetfile::limits::{MOST_HEADS, MOST_SIGNATURES};
 
 // The plan of the sheet in `bytes`; its tests go into the store.
 fn read_plan<K: Kind>(kind: K, bytes: &[u8], store: &mut [K::Test]) -> Result<Plan, Fault>
-    ensures { PlanLeft (rule facts.code facts.tests (length store.old) bytes.now) store.old result store.new }
+    ensures { PlanLeft (rule K.facts.code K.facts.tests (length store.old) bytes.now) store.old result store.new }
 {
     let head = head_body(bytes, 0)?;
     let [code, heads] = head else {
@@ -42,8 +42,8 @@ pub fn read_sheet<K: Kind>(
     plan: &mut Plan,
     store: &mut [K::Test],
 ) -> Result<(), Fault>
-    ensures whole { Verdict facts.code facts.tests bytes.now store.old result plan.new store.new }
-    ensures fixed { SheetLeft (rule facts.code facts.tests (length store.old) bytes.now) store.old result plan.new store.new }
+    ensures whole { Verdict K.facts.code K.facts.tests bytes.now store.old result plan.new store.new }
+    ensures fixed { SheetLeft (rule K.facts.code K.facts.tests (length store.old) bytes.now) store.old result plan.new store.new }
 {
     *plan = Plan::empty();
     *plan = read_plan(kind, bytes, store)?;

@@ -33,7 +33,7 @@ pub(crate) fn read_signature<K: Kind>(
     requires few { heads ≤ most_heads }
     requires room { used ≤ length store.old }
     requires near { at + (3 + length body.now) < 2 ^ 64 }
-    ensures { Left (into (entry used) (signature_read facts.tests (length store.old) heads least used at body.now)) used store.old result store.new }
+    ensures { Left (into (entry used) (signature_read K.facts.tests (length store.old) heads least used at body.now)) used store.old result store.new }
 {
     let [high, low, tracks, frames, rest @ ..] = body else {
         return Err(Cause::Length.at(at));

@@ -23,7 +23,7 @@ pub(crate) fn read_signatures<K: Kind>(
 ) -> Result<usize, Fault>
     requires few { heads ≤ most_heads }
     requires near { at + length bytes.now < 2 ^ 64 }
-    ensures { EntriesLeft (into (entries_of 0) (signatures_read facts.tests (length store.old) heads (length entries.old) 0 0 at bytes.now)) store.old entries.old result store.new entries.new }
+    ensures { EntriesLeft (into (entries_of 0) (signatures_read K.facts.tests (length store.old) heads (length entries.old) 0 0 at bytes.now)) store.old entries.old result store.new entries.new }
 {
     let mut rest = bytes;
     let mut place = at;

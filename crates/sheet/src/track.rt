@@ -18,10 +18,10 @@ fn read_tests<K: Kind>(
     store: &mut [K::Test],
     from: usize,
 ) -> Result<(), Fault>
-    requires long { frames * facts.tests.width ≤ length body.now }
+    requires long { frames * K.facts.tests.width ≤ length body.now }
     requires room { from + frames ≤ length store.old }
     requires near { at + length body.now < 2 ^ 64 }
-    ensures { Left (bare (tests_read facts.tests frames at body.now)) from store.old result store.new }
+    ensures { Left (bare (tests_read K.facts.tests frames at body.now)) from store.old result store.new }
 {
     let width = kind.test_width();
     let mut rest = body;
@@ -47,10 +47,10 @@ fn read_track<K: Kind>(
     from: usize,
 ) -> Result<(), Fault>
     requires few { frames ≤ most_frames }
-    requires long { track_size facts.tests frames ≤ length rest.now }
+    requires long { track_size K.facts.tests frames ≤ length rest.now }
     requires room { from + frames ≤ length store.old }
     requires near { at + length rest.now < 2 ^ 64 }
-    ensures { Left (bare (track_read facts.tests frames at rest.now)) from store.old result store.new }
+    ensures { Left (bare (track_read K.facts.tests frames at rest.now)) from store.old result store.new }
 {
     match track_field(rest, at, frames * kind.test_width())? {
         Field::Track(tests, place) => read_tests(kind, tests, place + 3, frames, store, from),
@@ -69,10 +69,10 @@ pub(crate) fn read_tracks<K: Kind>(
     from: usize,
 ) -> Result<(), Fault>
     requires few { frames ≤ most_frames }
-    requires long { tracks * track_size facts.tests frames ≤ length body.now }
+    requires long { tracks * track_size K.facts.tests frames ≤ length body.now }
     requires room { from + tracks * frames ≤ length store.old }
     requires near { at + length body.now < 2 ^ 64 }
-    ensures { Left (bare (tracks_read facts.tests frames tracks at body.now)) from store.old result store.new }
+    ensures { Left (bare (tracks_read K.facts.tests frames tracks at body.now)) from store.old result store.new }
 {
     let size = 3 + frames * kind.test_width();
     let mut rest = body;

@@ -37,7 +37,7 @@ pub fn check_making<K: Kind>(
     tests: &[K::Test],
     memory: &[K::Reading],
 ) -> Result<(), Refusal>
-    ensures { in_figures (λ u. u) result ≡ making facts.code plan.now (length tests.now) (length memory.now) }
+    ensures { in_figures (λ u. u) result ≡ making K.facts.code plan.now (length tests.now) (length memory.now) }
 {
     if plan.is_empty() {
         return Err(Refusal::Plan);

@@ -25,7 +25,7 @@ fn passes_back<K: Kind>(
     run: usize,
     head: usize,
 ) -> bool
-    ensures { ToldOf facts.passes heads run tail.now tests.now head result }
+    ensures { ToldOf K.facts.passes heads run tail.now tests.now head result }
 {
     let mut behind = tests.len();
     for test in tests {
@@ -49,7 +49,7 @@ fn heads_passing<K: Kind>(
     run: usize,
 ) -> u8
     requires { heads ≤ 8 }
-    ensures { Members (ToldOf facts.passes heads run tail.now tests.now) heads result }
+    ensures { Members (ToldOf K.facts.passes heads run tail.now tests.now) heads result }
 {
     let mut set = 0u8;
     for head in 0..heads {
@@ -71,7 +71,7 @@ fn fill_from_tail<K: Kind>(
     table: &mut [u8],
 )
     requires { (heads ≤ 8) × (length table.old * frames ≤ length tests.now) }
-    ensures { Sets (λ t. ToldOf facts.passes heads run tail.now (take frames (drop (t * frames) tests.now))) heads (length table.old) table.new }
+    ensures { Sets (λ t. ToldOf K.facts.passes heads run tail.now (take frames (drop (t * frames) tests.now))) heads (length table.old) table.new }
 {
     for t in 0..table.len() {
         let from = t * frames;
@@ -90,7 +90,7 @@ fn table_fits<K: Kind>(
     table: &mut [u8],
 ) -> Option<Fits>
     requires { (heads ≤ 8) × (length table.old * frames ≤ length tests.now) }
-    ensures shown { Sets (λ t. ToldOf facts.passes heads run tail.now (take frames (drop (t * frames) tests.now))) heads (length table.old) table.new }
+    ensures shown { Sets (λ t. ToldOf K.facts.passes heads run tail.now (take frames (drop (t * frames) tests.now))) heads (length table.old) table.new }
     ensures made { MatchOption result (Within heads table.new → ⊥) (Made heads table.new) }
 {
     fill_from_tail(kind, tests, frames, tail, heads, run, table);
@@ -106,7 +106,7 @@ pub(crate) fn tail_fits<K: Kind>(
     heads: usize,
     run: usize,
 ) -> Option<Fits>
-    ensures { Keeps heads run tail.now → entry.now.tracks ≤ most_heads → entry.now.first + entry.now.tracks * entry.now.frames ≤ length store.now → MatchOption result ⊥ (FitsShown entry.now.tracks heads (fits facts.passes (signature_said store.now entry.now) (frames_in heads run (holds tail.now)))) }
+    ensures { Keeps heads run tail.now → entry.now.tracks ≤ most_heads → entry.now.first + entry.now.tracks * entry.now.frames ≤ length store.now → MatchOption result ⊥ (FitsShown entry.now.tracks heads (fits K.facts.passes (signature_said store.now entry.now) (frames_in heads run (holds tail.now)))) }
 {
     let tracks = entry.tracks as usize;
     if heads > MOST_HEADS || tracks > MOST_HEADS {

@@ -23,7 +23,7 @@ pub fn replay<K: Kind>(
     calls: &[Call<'_, K::Reading>],
     position: usize,
 ) -> Result<Verdict, Refusal>
-    ensures { in_figures verdict_of result ≡ replayed facts.readings.proper facts.passes (making facts.code plan.now (length tests.now) (length memory.old)) (said plan.now tests.now) (map called calls.now) position }
+    ensures { in_figures verdict_of result ≡ replayed K.facts.readings.proper K.facts.passes (making K.facts.code plan.now (length tests.now) (length memory.old)) (said plan.now tests.now) (map called calls.now) position }
 {
     check_making(kind, plan, tests, memory)?;
     let mut station = Station::new(kind, plan, tests, memory);

@@ -47,7 +47,7 @@ impl<'p, 's, 't, 'u, K: Kind> Twins<'p, 's, 't, 'u, K> {
         memory: &'t mut [K::Reading],
         other: &'u mut [K::Reading],
     ) -> Twins<'p, 's, 't, 'u, K>
-        ensures { making facts.code plan.now (length tests.now) (length memory.old) ≡ Ok tt → making facts.code plan.now (length tests.now) (length other.old) ≡ Ok tt → order.heads ≡ plan.now.heads → Twinned facts.readings.proper facts.passes result.order (snap result.home) (snap result.away) }
+        ensures { making K.facts.code plan.now (length tests.now) (length memory.old) ≡ Ok tt → making K.facts.code plan.now (length tests.now) (length other.old) ≡ Ok tt → order.heads ≡ plan.now.heads → Twinned K.facts.readings.proper K.facts.passes result.order (snap result.home) (snap result.away) }
     {
         let mut home = Station::new(kind, plan, tests, memory);
         let mut away = Station::new(kind, plan, tests, other);
@@ -58,9 +58,9 @@ impl<'p, 's, 't, 'u, K: Kind> Twins<'p, 's, 't, 'u, K> {
     // Feeds the frame to the one, and moved by the plug order, where it is a full frame, to the other. `plugged` has a place
     // for each head.
     pub fn feed(&mut self, frame: &[K::Reading], plugged: &mut [K::Reading]) -> Result<(), Refusal>
-        ensures answer { in_figures (λ u. u) result ≡ feed_answer facts.readings.proper self.old.home.heads frame.now }
+        ensures answer { in_figures (λ u. u) result ≡ feed_answer K.facts.readings.proper self.old.home.heads frame.now }
         ensures order { self.new.order ≡ self.old.order }
-        ensures kept { length plugged.old ≡ self.old.order.heads → Twinned facts.readings.proper facts.passes self.old.order (snap self.old.home) (snap self.old.away) → Twinned facts.readings.proper facts.passes self.old.order (snap self.new.home) (snap self.new.away) }
+        ensures kept { length plugged.old ≡ self.old.order.heads → Twinned K.facts.readings.proper K.facts.passes self.old.order (snap self.old.home) (snap self.old.away) → Twinned K.facts.readings.proper K.facts.passes self.old.order (snap self.new.home) (snap self.new.away) }
     {
         let answer = self.home.feed(frame);
         if self.order.plug(frame, plugged) {
@@ -74,7 +74,7 @@ impl<'p, 's, 't, 'u, K: Kind> Twins<'p, 's, 't, 'u, K> {
     // A gap on both lines.
     pub fn gap(&mut self)
         ensures order { self.new.order ≡ self.old.order }
-        ensures kept { Twinned facts.readings.proper facts.passes self.old.order (snap self.old.home) (snap self.old.away) → Twinned facts.readings.proper facts.passes self.old.order (snap self.new.home) (snap self.new.away) }
+        ensures kept { Twinned K.facts.readings.proper K.facts.passes self.old.order (snap self.old.home) (snap self.old.away) → Twinned K.facts.readings.proper K.facts.passes self.old.order (snap self.new.home) (snap self.new.away) }
     {
         self.home.gap();
         self.away.gap();
@@ -82,10 +82,10 @@ impl<'p, 's, 't, 'u, K: Kind> Twins<'p, 's, 't, 'u, K> {
 
     // What the two say of the signature in a position, and whether they agree: they do.
     pub fn look(&self, position: usize) -> Compared
-        ensures home { Looks facts.readings.proper facts.passes (snap self.now.home) position (in_figures verdict_of result.home) }
-        ensures away { Looks facts.readings.proper facts.passes (snap self.now.away) position (in_figures verdict_of result.away) }
+        ensures home { Looks K.facts.readings.proper K.facts.passes (snap self.now.home) position (in_figures verdict_of result.home) }
+        ensures away { Looks K.facts.readings.proper K.facts.passes (snap self.now.away) position (in_figures verdict_of result.away) }
         ensures compared { result.agree ≡ same_answer (in_figures verdict_of result.home) (in_figures verdict_of result.away) }
-        ensures agree { Twinned facts.readings.proper facts.passes self.now.order (snap self.now.home) (snap self.now.away) → result.agree ≡ true }
+        ensures agree { Twinned K.facts.readings.proper K.facts.passes self.now.order (snap self.now.home) (snap self.now.away) → result.agree ≡ true }
     {
         let home = self.home.look(position);
         let away = self.away.look(position);

@@ -11,7 +11,7 @@ use kinds::kind::Kind;
 impl<'p, 's, 't, K: Kind> Station<'p, 's, 't, K> {
     // Makes one call.
     fn perform(&mut self, call: &Call<'_, K::Reading>)
-        ensures { Works facts.readings.proper facts.passes (snap self.old) (called call.now) (snap self.new) }
+        ensures { Works K.facts.readings.proper K.facts.passes (snap self.old) (called call.now) (snap self.new) }
     {
         match *call {
             Call::Feed(frame) => {
@@ -32,7 +32,7 @@ impl<'p, 's, 't, K: Kind> Station<'p, 's, 't, K> {
 
     // Makes the calls in turn.
     pub fn work(&mut self, calls: &[Call<'_, K::Reading>])
-        ensures { Worked facts.readings.proper facts.passes (snap self.old) (map called calls.now) (snap self.new) }
+        ensures { Worked K.facts.readings.proper K.facts.passes (snap self.old) (map called calls.now) (snap self.new) }
     {
         for call in calls {
             self.perform(call);

@@ -22,11 +22,11 @@ loop-left-init g c = (
 pub bounds-tests-i : goal.bounds-tests-i
 bounds-tests-i g c = lowest_below 64 c.loop-left.left _ (omega arith) (omega arith) (omega arith)
 
-pub offset-bounds-tests-i : goal.offset-bounds-tests-i
-offset-bounds-tests-i g c = omega (arith, lowest_below 64 c.loop-left.left (length c.args.tests.now) (omega arith) (omega arith) (omega arith))
+pub offset_bounds-tests-i : goal.offset_bounds-tests-i
+offset_bounds-tests-i g c = omega (arith, lowest_below 64 c.loop-left.left (length c.args.tests.now) (omega arith) (omega arith) (omega arith))
 
-pub overflow-shl-next : goal.overflow-shl-next
-overflow-shl-next g c = lowest_below 64 c.loop-left.left 64 (omega arith) (omega arith) (omega arith)
+pub overflow_shl-next : goal.overflow_shl-next
+overflow_shl-next g c = lowest_below 64 c.loop-left.left 64 (omega arith) (omega arith) (omega arith)
 
 pub loop-left-preserved : goal.loop-left-preserved
 loop-left-preserved g c =
