@@ -15,8 +15,8 @@ loop-t-preserved c h =
     let set = c.args.set in
     let t = c.loop-t.t in
     elim c.if-set-t-eq1.branch [
-      | then-set-t-eq1 w ↦ ap (λ s. has s h) w.heads_is
+      | then-set-t-eq1 w ↦ ap (λ s. has s h) w.heads-is
           ∙ usable_joined fits (has set) t c.loop-t.heads (get_or c.args.rows.now t 0) h (c.loop-t.invariant h) refl (has_yes set t w.if-set-t-eq1.true)
-      | else-set-t-eq1 w ↦ ap (λ s. has s h) w.heads_is
+      | else-set-t-eq1 w ↦ ap (λ s. has s h) w.heads-is
           ∙ usable_passed fits (has set) t c.loop-t.heads h (c.loop-t.invariant h) (has_no set t w.if-set-t-eq1.false)
     ]

@@ -13,21 +13,21 @@ use Rattle.matching.proofs.short.least_short.Goals as goal
 sets : (m : ℕ) → m ≤ 8 → ((1 * 2 ^ m) % 2 ^ 32 ≡ 2 ^ m) × (2 ^ m ≤ 256)
 sets m l = (one_shl m 32 (omega arith), pow_mono {i = m} {j = 8} l)
 
-pub overflow-cast-set : goal.overflow-cast-set
-overflow-cast-set c = let b = sets (length c.args.rows.now) c.requires.0 in omega (arith, b.0, b.1)
+pub overflow_cast-set : goal.overflow_cast-set
+overflow_cast-set c = let b = sets (length c.args.rows.now) c.requires.0 in omega (arith, b.0, b.1)
 
-pub is-short-requires : goal.is-short-requires
-is-short-requires c = let b = sets (length c.args.rows.now) c.requires.0 in (c.requires.0, omega (arith, b.0))
+pub is_short-requires : goal.is_short-requires
+is_short-requires c = let b = sets (length c.args.rows.now) c.requires.0 in (c.requires.0, omega (arith, b.0))
 
-pub returns-then-is-short : goal.returns-then-is-short
-returns-then-is-short c =
+pub returns-then-is_short : goal.returns-then-is_short
+returns-then-is_short c =
     let m = length c.args.rows.now in
     let b = sets m c.requires.0 in
     let p : ℕ → Bool = λ s. is_short_set (table c.args.rows.now) m 8 (has s) in
-    sym (least_at p (2 ^ m) c.loop-number.number (omega (arith, b.0)) (sym c.if-is-short.ensures) c.loop-number.invariant)
+    sym (least_at p (2 ^ m) c.loop-number.number (omega (arith, b.0)) (sym c.if-is_short.ensures) c.loop-number.invariant)
 
 pub loop-number-preserved : goal.loop-number-preserved
-loop-number-preserved c = below_more _ _ c.loop-number.invariant (sym c.if-is-short.ensures)
+loop-number-preserved c = below_more _ _ c.loop-number.invariant (sym c.if-is_short.ensures)
 
 -- By Hall's theorem the loop does not run out.
 pub unreachable-requires : goal.unreachable-requires

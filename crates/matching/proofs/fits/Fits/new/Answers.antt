@@ -8,5 +8,5 @@ returns c =
       within = record { few_heads = omega arith; few_tracks = omega arith; each = λ t l. c.loop-t.invariant.2 t (omega arith) };
       same_heads = refl;
       same_tracks = refl;
-      same_fits = same_table c.loop-t.own_val c.args.rows.now (λ k l. c.loop-t.invariant.1 k (omega arith)) (λ k l. c.loop-t.invariant.3 k (omega arith));
+      same_fits = same_table c.loop-t.own c.args.rows.now (λ k l. c.loop-t.invariant.1 k (omega arith)) (λ k l. c.loop-t.invariant.3 k (omega arith));
     }

@@ -15,17 +15,17 @@ returns-then-track-rows t c =
 pub loop-left-init : goal.loop-left-init
 loop-left-init t c = begins c.args.rows.now c.args.track c.args.free c.args.hopeless.now (omega arith) (search rules)
 
-pub overflow-shl-taken : goal.overflow-shl-taken
-overflow-shl-taken t c = let n = next c.loop-left.invariant c.loop-left-test.true in omega (arith, n.low)
+pub overflow_shl-taken : goal.overflow_shl-taken
+overflow_shl-taken t c = let n = next c.loop-left.invariant c.loop-left-test.true in omega (arith, n.low)
 
-pub overflow-sub-rest : goal.overflow-sub-rest
-overflow-sub-rest t c = let n = next c.loop-left.invariant c.loop-left-test.true in omega (arith, n.weight, n.free_holds)
+pub overflow_sub-rest : goal.overflow_sub-rest
+overflow_sub-rest t c = let n = next c.loop-left.invariant c.loop-left-test.true in omega (arith, n.weight, n.free_holds)
 
 pub place-requires : goal.place-requires
 place-requires t c =
     let n = next c.loop-left.invariant c.loop-left-test.true in
     let k = size_taken c.args.free (count_trailing_zeros 8 c.loop-left.left) n.low n.is_free in
-    (search rules, (omega arith, (omega arith, (omega arith, (omega arith, (omega (arith, k), c.loop-left.invariant.honest))))))
+    (search rules, ((omega arith, (omega arith, (omega arith, omega arith))), (omega (arith, k), c.loop-left.invariant.honest)))
 
 -- The track stands on the head, and the tracks after it are placed.
 pub returns-then-place : goal.returns-then-place
@@ -35,8 +35,8 @@ returns-then-place t c =
       honest = c.if-place.ensures.honest;
     }
 
-pub overflow-sub-left : goal.overflow-sub-left
-overflow-sub-left t c = let n = next c.loop-left.invariant c.loop-left-test.true in omega (arith, n.weight, n.left_holds)
+pub overflow_sub-left : goal.overflow_sub-left
+overflow_sub-left t c = let n = next c.loop-left.invariant c.loop-left-test.true in omega (arith, n.weight, n.left_holds)
 
 pub loop-left-smaller : goal.loop-left-smaller
 loop-left-smaller t c =
