@@ -7,8 +7,8 @@ loop-t-init g c = table_none g.K.Kind.facts.passes c.args.frames c.args.rows.now
 
 pub loop-t-preserved : goal.loop-t-preserved
 loop-t-preserved g c =
-    table_more g.K.Kind.facts.passes c.args.frames c.args.rows.now c.args.heads c.loop-t.t c.track-fits.result c.loop-t.table
-    (omega arith) (omega arith) c.loop-t.invariant c.track-fits.ensures
+    table_more g.K.Kind.facts.passes c.args.frames c.args.rows.now c.args.heads c.loop-t.t c.track_fits.result c.loop-t.table
+    (omega arith) (omega arith) c.loop-t.invariant c.track_fits.ensures
 
 pub returns : goal.returns
 returns g c = table_whole g.K.Kind.facts.passes c.args.frames c.args.rows.now c.args.heads _ _ _ (omega arith) c.loop-t.invariant
