@@ -11,13 +11,13 @@ pub loop-head-preserved : goal.loop-head-preserved
 loop-head-preserved g c =
     let P = ToldOf g.K.Kind.facts.passes c.args.heads c.args.run c.args.tail.now c.args.tests.now in
     let h = c.loop-head.head in
-    elim c.if-passes-back.branch [
+    elim c.if-passes_back.branch [
       | then-passes-back w ↦
           subst (λ (s : ℕ). Members P (h + 1) s) (sym w.set-is)
-          (members_yes P h c.loop-head.set c.loop-head.invariant (omega arith) (subst (λ (b : Bool). P h b) w.if-passes-back.true c.passes-back.ensures))
+          (members_yes P h c.loop-head.set c.loop-head.invariant (omega arith) (subst (λ (b : Bool). P h b) w.if-passes_back.true c.passes_back.ensures))
       | else-passes-back w ↦
           subst (λ (s : ℕ). Members P (h + 1) s) (sym w.set-is)
-          (members_no P h c.loop-head.set c.loop-head.invariant (subst (λ (b : Bool). P h b) w.if-passes-back.false c.passes-back.ensures))
+          (members_no P h c.loop-head.set c.loop-head.invariant (subst (λ (b : Bool). P h b) w.if-passes_back.false c.passes_back.ensures))
     ]
 
 pub returns : goal.returns

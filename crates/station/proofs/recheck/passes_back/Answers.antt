@@ -22,9 +22,9 @@ returns-then-not-passes g c =
     c.loop-test.test-index c.loop-test.behind c.loop-test.invariant c.loop-test-test.true c.test-item.result c.test-item.is (c.loop-test.behind - 1) (omega (arith, c.loop-test.invariant.count))
     c.in-Some.reading c.passes.result back c.passes.ensures c.if-not-passes.true
 
-pub returns-in-default : goal.returns-in-default
-returns-in-default g c =
-    let back : Keeps c.args.heads c.args.run c.args.tail.now → c.args.head < c.args.heads → None ≡ back-of (frames_in c.args.heads c.args.run (holds c.args.tail.now)) (c.loop-test.behind - 1) c.args.head = λ k l. c.in-default.ensures k.good k.size k.few_frames k.few_heads l in
+pub returns-in_default : goal.returns-in_default
+returns-in_default g c =
+    let back : Keeps c.args.heads c.args.run c.args.tail.now → c.args.head < c.args.heads → None ≡ back-of (frames_in c.args.heads c.args.run (holds c.args.tail.now)) (c.loop-test.behind - 1) c.args.head = λ k l. c.in_default.ensures k.good k.size k.few_frames k.few_heads l in
     left_absent g.K.Kind.facts.passes c.args.heads c.args.run c.args.tail.now c.args.tests.now c.args.head
     c.loop-test.test-index c.loop-test.behind c.loop-test.invariant c.loop-test-test.true c.test-item.result c.test-item.is (c.loop-test.behind - 1) (omega (arith, c.loop-test.invariant.count)) back
 

@@ -6,8 +6,8 @@ use Rattle.station.proofs.Tailing.{sets_all}
 use Rattle.station.proofs.Rechecking.{tail_shown}
 use Rattle.station.proofs.recheck.tail_fits.Goals as goal
 
-pub table-fits-requires : goal.table-fits-requires
-table-fits-requires g c =
+pub table_fits-requires : goal.table_fits-requires
+table_fits-requires g c =
     let e = c.args.entry.now in
     let blank : List ℕ = 0 ∷ 0 ∷ 0 ∷ 0 ∷ 0 ∷ 0 ∷ 0 ∷ 0 ∷ [] in
     let size : length (take (e.tracks - 0) blank) ≡ e.tracks = length-take (e.tracks - 0) blank ∙ omega arith in
@@ -17,7 +17,7 @@ table-fits-requires g c =
 pub returns : goal.returns
 returns g c keeps few room =
     let e = c.args.entry.now in
-    let table = c.table-fits.new.table in
-    let long : length table ≡ e.tracks = front_long e.tracks _ table (omega arith) c.table-fits.auto.table in
+    let table = c.table_fits.new.table in
+    let long : length table ≡ e.tracks = front_long e.tracks _ table (omega arith) c.table_fits.auto.table in
     tail_shown g.K.Kind.facts.passes c.args.heads c.args.run c.args.tail.now c.args.store.now e c.in-Some.tests.now (found e c.args.store.now c.in-Some.tests.now c.in-Some.ensures).0
-    table long (sets_all _ c.args.heads _ e.tracks table (sym c.table-fits.auto.table ∙ long) c.table-fits.ensures.shown) keeps few c.table-fits.result c.table-fits.ensures.made
+    table long (sets_all _ c.args.heads _ e.tracks table (sym c.table_fits.auto.table ∙ long) c.table_fits.ensures.shown) keeps few c.table_fits.result c.table_fits.ensures.made

@@ -9,4 +9,4 @@ pub returns : goal.returns
 returns g c =
     replay_tells g.K.Kind.facts.readings.proper g.K.Kind.facts.passes _ c.args.plan.now c.args.tests.now (map called c.args.calls.now)
     (snap c.new-station.result) (snap c.work.new.self) c.args.position _
-    c.in-ok-check-making.ensures c.new-station.ensures.made c.new-station.ensures.kept c.work.ensures c.look.ensures
+    c.in_ok-check_making.ensures c.new-station.ensures.made c.new-station.ensures.kept c.work.ensures c.look.ensures
