@@ -56,7 +56,8 @@ impl Figures for MoistureSpan {
     fn put(&self, out: &mut String) -> fmt::Result {
         let low = Percent(self.low);
         let high = Percent(self.high);
-        write!(out, "moisture {low} to {high}")
+        write!(out, "moisture {low} to {high}")?;
+        Ok(())
     }
 }
 
@@ -64,7 +65,8 @@ impl Figures for TemperatureSpan {
     fn put(&self, out: &mut String) -> fmt::Result {
         let low = Degrees(self.low);
         let high = Degrees(self.high);
-        write!(out, "temperature {low} to {high}")
+        write!(out, "temperature {low} to {high}")?;
+        Ok(())
     }
 }
 

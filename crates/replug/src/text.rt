@@ -25,13 +25,14 @@ fn put_tally(out: &mut String, tally: Tally) -> fmt::Result {
         writeln!(
             out,
             "{orders} plug orders, {agreed} verdicts: every verdict agrees"
-        )
+        )?;
     } else {
         writeln!(
             out,
             "{orders} plug orders: {agreed} verdicts agree, {differed} differ"
-        )
+        )?;
     }
+    Ok(())
 }
 
 // The text of a sheet of this kind. Memory for tests, two tails and two frames is lent.

@@ -1,5 +1,6 @@
 // Why nothing can be shown.
 use sheetfile::fault::Fault;
+use std::alloc::AllocError;
 use std::fmt;
 
 #[derive(Clone, Copy, Debug)]
@@ -18,6 +19,12 @@ impl From<Fault> for Trouble {
 
 impl From<fmt::Error> for Trouble {
     fn from(_error: fmt::Error) -> Trouble {
+        Trouble::Text
+    }
+}
+
+impl From<AllocError> for Trouble {
+    fn from(_error: AllocError) -> Trouble {
         Trouble::Text
     }
 }

@@ -7,9 +7,9 @@ pub returns : goal.returns
 returns c =
     let line = fault_line (told c.args.fault.now) in
     let said = c.words.result.now in
-    let at = c.as-str.result.now in (
+    let at = c.as_str.result.now in (
       said ++ at,
-      c.in-ok-push-str-2.ensures.bytes
-          ∙ ap (λ xs. xs ++ at) (c.in-ok-push-str.ensures.bytes ∙ ap (λ xs. xs ++ said) c.in-ok-out.ensures)
+      c.in_ok-push_str-2.ensures.bytes
+          ∙ ap (λ xs. xs ++ at) (c.in_ok-push_str.ensures.bytes ∙ ap (λ xs. xs ++ said) c.in_ok-out.ensures)
           ∙ append_assoc line said at,
     )

@@ -7,9 +7,9 @@ returns-then-not-invert c few from perm =
     let o = c.invert.ensures.free c.if-not-invert.true in o.2 (from o.0) (perm.from_below o.0 o.1) (perm.forth o.0 o.1)
 
 -- in an order the head that goes into a head's socket is that head
-pub returns-then-not-is-inverse : goal.returns-then-not-is-inverse
-returns-then-not-is-inverse c few from perm =
-    let o = c.is-inverse.ensures.other c.if-not-is-inverse.true in
+pub returns-then-not-is_inverse : goal.returns-then-not-is_inverse
+returns-then-not-is_inverse c few from perm =
+    let o = c.is_inverse.ensures.other c.if-not-is_inverse.true in
     let h = o.0 in
     let below = perm.to_below h o.1 in
     let found = c.invert.ensures.each c.if-not-invert.false _ below in

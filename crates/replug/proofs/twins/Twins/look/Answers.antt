@@ -9,8 +9,8 @@ returns g c =
     record {
       home = c.look-home.ensures;
       away = c.look-away.ensures;
-      compared = c.same-answer-agree.ensures;
+      compared = c.same_answer-agree.ensures;
       agree = λ h.
-          c.same-answer-agree.ensures
+          c.same_answer-agree.ensures
           ∙ twins_agree g.K.Kind.facts.readings.proper g.K.Kind.facts.passes o.order (snap o.home) (snap o.away) c.args.position _ _ h c.look-home.ensures c.look-away.ensures;
     }
