@@ -14,7 +14,7 @@ use sheetfile::limits::{MOST_FRAMES, MOST_HEADS, MOST_TESTS};
 use station::refusal::Refusal;
 use station::station::Station;
 use station::verdict::Verdict;
-use std::alloc::Global;
+use std::alloc::{AllocError, Global};
 use std::fmt;
 use std::fmt::Write;
 
@@ -36,7 +36,7 @@ const BLANK_READING: ClimateReading = ClimateReading {
     temperature: 0,
 };
 
-fn put_made(out: &mut String, made: Result<(), Fault>) -> fmt::Result {
+fn put_made(out: &mut String, made: Result<(), Fault>) -> Result<(), AllocError> {
     match made {
         Ok(()) => writeln!(out, "made"),
         Err(fault) => {
@@ -48,7 +48,7 @@ fn put_made(out: &mut String, made: Result<(), Fault>) -> fmt::Result {
     }
 }
 
-fn put_refusal(out: &mut String, refusal: Refusal) -> fmt::Result {
+fn put_refusal(out: &mut String, refusal: Refusal) -> Result<(), AllocError> {
     let number = refusal.number();
     match refusal {
         Refusal::Reading(head) => writeln!(out, "refused {number} {head}"),
@@ -56,14 +56,14 @@ fn put_refusal(out: &mut String, refusal: Refusal) -> fmt::Result {
     }
 }
 
-fn put_fed(out: &mut String, fed: Result<(), Refusal>) -> fmt::Result {
+fn put_fed(out: &mut String, fed: Result<(), Refusal>) -> Result<(), AllocError> {
     match fed {
         Ok(()) => writeln!(out, "ok"),
         Err(refusal) => put_refusal(out, refusal),
     }
 }
 
-fn put_seen(out: &mut String, heads: &[u8]) -> fmt::Result {
+fn put_seen(out: &mut String, heads: &[u8]) -> Result<(), AllocError> {
     write!(out, "seen")?;
     for head in heads {
         write!(out, " {head}")?;
@@ -71,7 +71,7 @@ fn put_seen(out: &mut String, heads: &[u8]) -> fmt::Result {
     writeln!(out)
 }
 
-fn put_verdict(out: &mut String, verdict: Verdict) -> fmt::Result {
+fn put_verdict(out: &mut String, verdict: Verdict) -> Result<(), AllocError> {
     match verdict {
         Verdict::Young => writeln!(out, "young"),
         Verdict::Seen(placing) => put_seen(out, placing.heads()),
@@ -82,7 +82,7 @@ fn put_verdict(out: &mut String, verdict: Verdict) -> fmt::Result {
     }
 }
 
-fn put_look(out: &mut String, look: Result<Verdict, Refusal>) -> fmt::Result {
+fn put_look(out: &mut String, look: Result<Verdict, Refusal>) -> Result<(), AllocError> {
     match look {
         Ok(verdict) => put_verdict(out, verdict),
         Err(refusal) => put_refusal(out, refusal),
@@ -98,7 +98,8 @@ fn put_reading<K: Kind>(out: &mut String, kind: K, reading: &K::Reading) -> fmt:
         return Err(fmt::Error);
     };
     hex::put(out, bytes)?;
-    writeln!(out)
+    writeln!(out)?;
+    Ok(())
 }
 
 fn put_back<K: Kind>(
@@ -108,8 +109,8 @@ fn put_back<K: Kind>(
 ) -> fmt::Result {
     match back {
         Ok(Some(reading)) => put_reading(out, kind, &reading),
-        Ok(None) => writeln!(out, "absent"),
-        Err(refusal) => put_refusal(out, refusal),
+        Ok(None) => Ok(writeln!(out, "absent")?),
+        Err(refusal) => Ok(put_refusal(out, refusal)?),
     }
 }
 

@@ -1,4 +1,4 @@
-use Rattle.std.proofs.Common.{◌≡◌, vec_items, ap, subst, arith}
+use Rattle.std.proofs.Common.{◌≡◌, ap, subst, arith}
 use Rattle.station.specs.Answers.{in_figures, verdict_of}
 use Rattle.station.specs.Snap.{snap}
 use Rattle.listing.proofs.Frames.{frame_begin, frame_again, frame_end}
