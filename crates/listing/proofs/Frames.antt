@@ -14,7 +14,7 @@ use Rattle.station.specs.States.{State, signatures}
 use Rattle.station.specs.Following.{Following}
 use Rattle.station.specs.Promises.{Looks}
 use Rattle.station.proofs.Law.{look_is}
-use Rattle.listing.specs.declared.report.Report.{Report as Kept-report}
+use Rattle.listing.specs.declared.report.Report.{Report as KeptReport}
 use Rattle.listing.specs.Reports.{reported, at_frame}
 use Rattle.listing.specs.Kept.{looked, Adds}
 use Rattle.listing.proofs.Kept.{lines_append, adds_none, adds_more}
@@ -26,17 +26,17 @@ module _ {T R : Type 0} (lawful : R → Bool) (passes : T → R → Bool) where
       ap (λ rs. reported number g.name (verdict passes N g run) ++ rs) (frame_append N ss ts number run)
       ∙ sym (append_assoc (reported number g.name (verdict passes N g run)) (at_frame passes N ss number run) (at_frame passes N ts number run))
 
-  module _ (s : State T R) (number : ℕ) (old : Ring Kept-report) (before : List ℕ) where
+  module _ (s : State T R) (number : ℕ) (old : Ring KeptReport) (before : List ℕ) where
     -- after the first i signatures
-    pub record FrameTurn (i : ℕ) (new : Ring Kept-report) (now-out : List ℕ) : Type 0 where
+    pub record FrameTurn (i : ℕ) (new : Ring KeptReport) (now-out : List ℕ) : Type 0 where
       pub added : (N : ℕ) (sheet : List (Signature T)) (run : List (List R)) → Following lawful passes N sheet run s → Adds (at_frame passes N (take i sheet) number run) old new
       pub wrote : (N : ℕ) (sheet : List (Signature T)) (run : List (List R)) → Following lawful passes N sheet run s → now-out ≡ before ++ report_lines (at_frame passes N (take i sheet) number run)
 
     pub frame_begin : FrameTurn 0 old before
     frame_begin = record { added = λ N sheet run h. adds_none old; wrote = λ N sheet run h. sym (append-nil before) }
 
-    module _ {i : ℕ} {new : Ring Kept-report} {out : List ℕ} (t : FrameTurn i new out) (l : i < length s.entries) (e : Entry) (at : e ≡ get_or s.entries i e)
-        (a : Result Verdict Told) (look : Looks lawful passes s i a) (next : Ring Kept-report) (more : List ℕ)
+    module _ {i : ℕ} {new : Ring KeptReport} {out : List ℕ} (t : FrameTurn i new out) (l : i < length s.entries) (e : Entry) (at : e ≡ get_or s.entries i e)
+        (a : Result Verdict Told) (look : Looks lawful passes s i a) (next : Ring KeptReport) (more : List ℕ)
         (adds : Adds (looked number e.name a) new next) (writes : more ≡ out ++ report_lines (looked number e.name a)) where
       module _ (N : ℕ) (sheet : List (Signature T)) (run : List (List R)) (h : Following lawful passes N sheet run s) where
         abbrev g : Signature T
@@ -75,7 +75,7 @@ module _ {T R : Type 0} (lawful : R → Bool) (passes : T → R → Bool) where
                 ∙ ap (λ xs. before ++ xs) (sym (lines_append rs (looked number e.name a)) ∙ ap report_lines (sym (one_more N sheet run h)));
           }
 
-    module _ {i : ℕ} {new : Ring Kept-report} {out : List ℕ} (t : FrameTurn i new out) (l : length s.entries ≤ i)
+    module _ {i : ℕ} {new : Ring KeptReport} {out : List ℕ} (t : FrameTurn i new out) (l : length s.entries ≤ i)
         (N : ℕ) (sheet : List (Signature T)) (run : List (List R)) (h : Following lawful passes N sheet run s) where
       all : take i sheet ≡ sheet
       all = take_all i sheet (omega (arith, l, length-map s.entries (signature_said s.tests), ap length h.sheet_is))

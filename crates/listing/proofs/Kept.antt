@@ -4,7 +4,7 @@ use Rattle.std.proofs.lemmas.List.{append-nil, append_assoc, reverse-append, len
 use Rattle.lines.specs.Lines.{Report, report_line, report_lines}
 use Rattle.ring.specs.declared.Ring.{Ring}
 use Rattle.ring.specs.Rings.{holds, Good}
-use Rattle.listing.specs.declared.report.Report.{Report as Kept-report}
+use Rattle.listing.specs.declared.report.Report.{Report as KeptReport}
 use Rattle.listing.specs.Kept.{report_of, reports_in, Adds}
 
 pub lines_append : (rs qs : List Report) → report_lines (rs ++ qs) ≡ report_lines rs ++ report_lines qs
@@ -17,19 +17,19 @@ take_behind m n [] ys l = take-take m n ys l
 take_behind zero n (x ∷ xs) ys l = refl
 take_behind (suc m) n (x ∷ xs) ys l = ap (λ zs. x ∷ zs) (take_behind m n xs ys (omega arith))
 
-few : (r : Ring Kept-report) → Good r → length (reports_in r) ≤ r.capacity
+few : (r : Ring KeptReport) → Good r → length (reports_in r) ≤ r.capacity
 few r good =
     let all = reverse (take r.next r.slots.now) ++ reverse (drop r.next (take r.capacity r.slots.now)) in
     omega (arith, length-map (holds r) report_of, length-take r.count all, good.held)
 
-pub adds_none : (r : Ring Kept-report) → Adds [] r r
+pub adds_none : (r : Ring KeptReport) → Adds [] r r
 adds_none r = record { good = λ g. g; capacity = refl; holds_are = λ g. sym (take_all r.capacity (reports_in r) (few r g)) }
 
-pub adds_one : (item : Kept-report) (old new : Ring Kept-report) → (Good old → Good new) → new.capacity ≡ old.capacity → (Good old → holds new ≡ take old.capacity (item ∷ holds old)) → Adds (report_of item ∷ []) old new
+pub adds_one : (item : KeptReport) (old new : Ring KeptReport) → (Good old → Good new) → new.capacity ≡ old.capacity → (Good old → holds new ≡ take old.capacity (item ∷ holds old)) → Adds (report_of item ∷ []) old new
 adds_one item old new good same keeps =
     record { good = good; capacity = same; holds_are = λ g. ap (map report_of) (keeps g) ∙ sym (take-map report_of old.capacity (item ∷ holds old)) }
 
-pub adds_more : (rs qs : List Report) (a b c : Ring Kept-report) → Adds rs a b → Adds qs b c → Adds (rs ++ qs) a c
+pub adds_more : (rs qs : List Report) (a b c : Ring KeptReport) → Adds rs a b → Adds qs b c → Adds (rs ++ qs) a c
 adds_more rs qs a b c one two =
     record {
       good = λ g. two.good (one.good g);
