@@ -1,6 +1,5 @@
 -- A bank agrees with no frames when it is new, and with one frame more when it is stepped. Assumes nothing.
-use Rattle.std.proofs.Common.{◌≡◌, ℕ, ◌+◌, ◌*◌, ◌<◌, ◌≤◌, Bool, List, [], ◌∷◌, map, length, get_or, replicate, Some, sym, ap, ◌∙◌, subst, inl, inr, arith}
-use Rattle.std.specs.List.{slice_get}
+use Rattle.std.proofs.Common.{◌≡◌, ℕ, ◌+◌, ◌*◌, ◌<◌, ◌≤◌, Bool, List, [], ◌∷◌, map, length, get_or, replicate, sym, ap, ◌∙◌, subst, inl, inr, arith}
 use Rattle.std.proofs.lemmas.Option.{slice_get-get_or}
 use Rattle.std.proofs.lemmas.Bool.{cases_lt}
 use Rattle.std.proofs.lemmas.List.{get_or-replicate, get_or_past, length-replicate}
@@ -13,7 +12,7 @@ use Rattle.sheet.specs.declared.entry.Entry.{Entry}
 use Rattle.sheet.specs.Said.{signature_said}
 use Rattle.sheetfile.specs.Sheets.{Signature}
 use Rattle.bank.specs.declared.Bank.{Bank}
-use Rattle.bank.specs.Words.{blank, word_in, word_at}
+use Rattle.bank.specs.Words.{blank, word_at}
 use Rattle.bank.specs.Agreement.{Agrees, Fitted, SignatureFitted, Stored}
 use Rattle.bank.specs.Steps.{EntriesStepped}
 use Rattle.bank.proofs.Cuts.{pieces_count}

@@ -9,7 +9,7 @@ use Rattle.std.specs.List.{slice_get}
 use Rattle.matching.specs.Sets.{has}
 use Rattle.matching.specs.Meaning.{Within, Made}
 use Rattle.matching.specs.declared.fits.Fits.{Fits}
-use Rattle.matching.proofs.Words.{has_none, has_past, has_or}
+use Rattle.matching.proofs.Words.{has_past, has_or}
 use Rattle.rows.specs.declared.Row.{Row}
 use Rattle.rows.specs.Matches.{Tells}
 use Rattle.runs.specs.Frames.{history}

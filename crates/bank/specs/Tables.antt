@@ -6,7 +6,7 @@ use Rattle.matching.specs.Meaning.{fitting}
 use Rattle.matching.specs.declared.fits.Fits.{Fits}
 use Rattle.rows.specs.declared.Row.{Row}
 use Rattle.rows.specs.Matches.{Tells, passed_last}
-use Rattle.sheetfile.specs.Limits.{most_heads, most_frames}
+use Rattle.sheetfile.specs.Limits.{most_frames}
 use Rattle.bank.specs.Words.{word_in}
 
 -- the flag says whether the match of `frames` tests is complete, for all tests and histories that the word tells of

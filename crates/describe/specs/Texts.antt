@@ -1,6 +1,5 @@
 -- How the text of a sheet file begins where the file is refused.
 use Rattle.std.specs.Prelude.{◌≡◌, ℕ, List, [], ◌∷◌, ◌++◌, Ok, Err, decimal, Result}
-use Rattle.kinds.specs.Kinds.{Facts}
 use Rattle.kinds.specs.Bands.{band_facts}
 use Rattle.kinds.specs.Spans.{span_facts}
 use Rattle.kinds.specs.Climates.{climate_facts}

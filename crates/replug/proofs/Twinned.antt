@@ -1,17 +1,17 @@
 -- Two stations worked by the same calls: one call more, and what they say. Assumes the promise over lists of calls.
-use Rattle.std.proofs.Common.{◌≡◌, ℕ, Bool, true, false, eqb, List, [], ◌∷◌, ◌++◌, length, Some, None, Ok, Err, Option, Result, sym, refl, ap, ◌∙◌, subst, inr, arith}
+use Rattle.std.proofs.Common.{◌≡◌, ℕ, Bool, true, false, List, [], ◌∷◌, ◌++◌, length, Some, None, Ok, Err, Option, Result, sym, refl, ap, ◌∙◌, subst, inr, arith}
 use Rattle.std.specs.List.{slice_get}
 use Rattle.std.proofs.lemmas.Bool.{eq-eqb, and_from}
 use Rattle.matching.specs.Renaming.{Permutes}
 use Rattle.runs.specs.Calls.{Call, feed, gap, look, look_back, recheck, ran, gapped, SameCall, Replugged}
-use Rattle.runs.specs.Verdicts.{Verdict, young, seen_on, short_of, verdict, Agree}
+use Rattle.runs.specs.Verdicts.{Verdict, young, seen_on, short_of, Agree}
 use Rattle.sheet.specs.declared.plan.Plan.{Plan}
 use Rattle.sheet.specs.Said.{said}
 use Rattle.sheetfile.specs.Sheets.{Signature}
 use Rattle.station.specs.Refusals.{Told}
 use Rattle.station.specs.States.{State}
-use Rattle.station.specs.Promises.{Feeds, Gaps, Looks, Works, Worked}
-use Rattle.station.specs.Law.{Made, Reached, Law}
+use Rattle.station.specs.Promises.{Feeds, Gaps, Looks, Works}
+use Rattle.station.specs.Law.{Made, Reached}
 use Rattle.station.specs.Making.{Makes}
 use Rattle.station.specs.Working.{at_position}
 use Rattle.station.proofs.Law.{law}

@@ -1,6 +1,5 @@
 -- Plug orders as lists: place h has the socket into which head h goes.
-use Rattle.std.specs.Prelude.{◌≡◌, ℕ, ◌<◌, ◌≤◌, Bool, true, false, ◌&&◌, List, length, ◌==◌, ◌≢◌, slice_index}
-use Rattle.matching.specs.Renaming.{Permutes}
+use Rattle.std.specs.Prelude.{◌≡◌, ℕ, ◌<◌, Bool, true, false, ◌&&◌, List, length, ◌==◌, ◌≢◌, slice_index}
 use Rattle.runs.specs.Plugs.{Moved}
 use Rattle.replug.specs.declared.order.Order.{Order}
 

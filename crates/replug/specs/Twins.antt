@@ -1,5 +1,5 @@
 -- Two stations on one sheet, the second worked by the same calls through a plug order.
-use Rattle.std.specs.Prelude.{◌≡◌, ℕ, Bool, true, false, List, Ok, Err, Result, ◌==◌}
+use Rattle.std.specs.Prelude.{◌≡◌, Bool, true, false, List, Ok, Err, Result, ◌==◌}
 use Rattle.runs.specs.Calls.{Call, gapped, Replugged}
 use Rattle.runs.specs.Verdicts.{Verdict, young, seen_on, short_of}
 use Rattle.sheetfile.specs.Sheets.{Signature}

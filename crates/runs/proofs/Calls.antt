@@ -1,14 +1,13 @@
 -- What lists of calls leave, on two lines plugged in different orders. Assumes nothing.
-use Rattle.std.proofs.Common.{◌≡◌, ℕ, zero, suc, ◌+◌, ◌<◌, ◌≤◌, Bool, true, false, cond, ◌&&◌, eqb, ◌⊎◌, List, [], ◌∷◌, length, Some, None, sym, refl, ap, ◌∙◌, subst, ⊎_elim, arith}
+use Rattle.std.proofs.Common.{◌≡◌, ℕ, zero, suc, ◌+◌, ◌<◌, ◌≤◌, Bool, true, false, cond, eqb, List, [], ◌∷◌, length, Some, sym, refl, ap, ◌∙◌, subst, ⊎_elim, arith}
 use Rattle.std.specs.List.{slice_get}
-use Rattle.std.proofs.lemmas.Bool.{eq-eqb, eqb-true, ne_eqb, and_from, and_parts, cases_lt}
+use Rattle.std.proofs.lemmas.Bool.{eq-eqb, eqb-true, and_from, and_parts, cases_lt}
 use Rattle.std.proofs.lemmas.Option.{slice_get_past as nth_past}
 use Rattle.matching.specs.Renaming.{Permutes}
 use Rattle.runs.specs.Frames.{all_lawful, accepts}
 use Rattle.runs.specs.Plugs.{Moved, Paired}
-use Rattle.runs.specs.Calls.{Call, feed, gap, look, look_back, recheck, after, ran, accepted, gapped, Reaches, SameCall, Replugged}
+use Rattle.runs.specs.Calls.{Call, feed, gap, look, look_back, recheck, after, ran, accepted, gapped, Reaches, Replugged}
 use Rattle.runs.specs.Theorems.{Full, Settled}
-use Rattle.runs.proofs.Histories.{there}
 
 -- two tests that hold together are the same
 same_test : (a b : Bool) → (a ≡ true → b ≡ true) → (b ≡ true → a ≡ true) → a ≡ b

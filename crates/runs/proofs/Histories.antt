@@ -3,9 +3,8 @@ use Rattle.std.proofs.Common.{◌≡◌, ℕ, zero, suc, ◌<◌, ◌≤◌, Lis
 use Rattle.std.specs.Option.{option_to_list}
 use Rattle.std.specs.List.{slice_get}
 use Rattle.std.proofs.lemmas.List.{length-append}
-use Rattle.sheetfile.specs.Sheets.{Each}
 use Rattle.runs.specs.Frames.{history}
-use Rattle.runs.specs.Plugs.{Moved, Paired}
+use Rattle.runs.specs.Plugs.{Paired}
 use Rattle.runs.specs.Theorems.{Full}
 
 -- a place within a list holds something

@@ -1,11 +1,10 @@
 -- The laws of the verdict. Assumes nothing.
-use Rattle.std.proofs.Common.{◌≡◌, ℕ, zero, suc, ◌<◌, ◌≤◌, Bool, true, false, cond, ltb, ◌⊎◌, ◌↔◌, List, [], ◌∷◌, length, get_or, take, sym, refl, ap, ◌∙◌, subst, inl, inr, ⊎_elim, arith}
-use Rattle.std.proofs.lemmas.Bool.{cond-true, cond-false, lt-ltb, le-ltb, ltb-true, ltb-false, cases_lt}
+use Rattle.std.proofs.Common.{◌≡◌, ℕ, zero, suc, ◌<◌, ◌≤◌, Bool, true, false, ◌↔◌, List, [], ◌∷◌, length, get_or, take, sym, ap, ◌∙◌, subst, ⊎_elim, arith}
+use Rattle.std.proofs.lemmas.Bool.{cond-true, cond-false, lt-ltb, le-ltb, cases_lt}
 use Rattle.std.proofs.lemmas.List.{length-take}
 use Rattle.matching.specs.Answer.{Answer, seen, short, answer, Right as Right-answer}
-use Rattle.matching.specs.Fitting.{Fitting, Alike}
-use Rattle.matching.specs.Placings.{Places, Placeable, FirstPlacing}
-use Rattle.matching.specs.Short.{Short, LeastShort}
+use Rattle.matching.specs.Fitting.{Alike}
+use Rattle.matching.specs.Placings.{Placeable}
 use Rattle.matching.specs.Renaming.{Permutes, Renames, SameWord}
 use Rattle.matching.proofs.Rightness.{answer_right, answer_only, hall_holds}
 use Rattle.matching.proofs.Renaming.{answer_unmoved}
@@ -15,7 +14,7 @@ use Rattle.rows.proofs.Histories.{passed_short, passed_take, passed_same}
 use Rattle.sheetfile.specs.Sheets.{Signature, Each}
 use Rattle.runs.specs.Frames.{history}
 use Rattle.runs.specs.Verdicts.{Verdict, young, seen_on, short_of, fits, judged, verdict, Right, IsSeen, Agree}
-use Rattle.runs.specs.Plugs.{Moved, Paired}
+use Rattle.runs.specs.Plugs.{Paired}
 use Rattle.runs.specs.Theorems.{Regular, Full}
 use Rattle.runs.proofs.Histories.{history_short, history_take, history_paired}
 

@@ -1,9 +1,9 @@
 -- The verdict on a run.
-use Rattle.std.specs.Prelude.{◌≡◌, ℕ, ◌<◌, ◌≤◌, Bool, cond, ◌↔◌, List, [], length, nat_lt, slice_index_or}
+use Rattle.std.specs.Prelude.{◌≡◌, ℕ, ◌<◌, ◌≤◌, Bool, cond, List, [], length, nat_lt, slice_index_or}
 use Rattle.matching.specs.Answer.{Answer, seen, short, answer}
 use Rattle.matching.specs.Fitting.{Fitting}
-use Rattle.matching.specs.Placings.{Places, Placeable, FirstPlacing}
-use Rattle.matching.specs.Short.{Short, LeastShort}
+use Rattle.matching.specs.Placings.{Places, FirstPlacing}
+use Rattle.matching.specs.Short.{LeastShort}
 use Rattle.rows.specs.Matches.{passed_last}
 use Rattle.sheetfile.specs.Sheets.{Signature}
 use Rattle.runs.specs.Frames.{history}

@@ -12,7 +12,7 @@ use Rattle.sheetfile.specs.Limits.{most_heads, most_signatures, within}
 use Rattle.sheetfile.specs.Sheets.{Signature, Sheet, Each, SignatureWithin, Rising, test_count}
 use Rattle.sheetfile.specs.Encoding.{signature_bytes}
 use Rattle.sheetfile.specs.Outcomes.{Outcome, stop, check, on, mapped, into}
-use Rattle.sheetfile.specs.Reading.{field_read, one, signatures_read, rule}
+use Rattle.sheetfile.specs.Reading.{field_read, signatures_read, rule}
 use Rattle.sheetfile.proofs.Outcomes.{held, caught, is_not, isnt, told_ok, told_err}
 use Rattle.sheetfile.proofs.Only.{Bytes, bytes_drop, field_only, signatures_only}
 use Rattle.sheet.specs.declared.entry.Entry.{Entry}

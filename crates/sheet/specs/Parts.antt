@@ -1,5 +1,5 @@
 -- The part of a store that holds a signature's tests.
-use Rattle.std.specs.Prelude.{ℕ, ◌+◌, ◌*◌, cond, List, length, take, drop, Some, None, Option, nat_le}
+use Rattle.std.specs.Prelude.{◌+◌, ◌*◌, cond, List, length, take, drop, Some, None, Option, nat_le}
 use Rattle.sheet.specs.declared.entry.Entry.{Entry}
 
 abbrev pub part_of : {T : Type 0} → Entry → List T → Option (List T)

@@ -1,19 +1,18 @@
 -- What is written reads back. Assumes the laws of the kind.
-use Rattle.std.proofs.Common.{◌≡◌, ℕ, zero, suc, ◌+◌, ◌-◌, ◌*◌, ◌/◌, ◌%◌, ◌<◌, ◌≤◌, Bool, true, false, cond, not, eqb, ltb, leb, List, [], ◌∷◌, ◌++◌, length, get_or, take, drop, Some, None, Ok, Err, sym, refl, ap, ◌∙◌, subst, suc-mul, mul_comm, mul-le-mul, zero-mul, arith}
+use Rattle.std.proofs.Common.{◌≡◌, ℕ, zero, suc, ◌+◌, ◌*◌, ◌<◌, ◌≤◌, true, not, eqb, List, [], ◌∷◌, ◌++◌, length, get_or, take, drop, Some, Ok, sym, refl, ap, ◌∙◌, suc-mul, mul-le-mul, zero-mul, arith}
 use Rattle.std.specs.List.{flat_map}
-use Rattle.std.proofs.lemmas.Bool.{cond-false, cond-true, ne_eqb, eq-eqb, le-ltb, lt-ltb, le-leb, and_from, not_from_true}
+use Rattle.std.proofs.lemmas.Bool.{cond-false, cond-true, ne_eqb, eq-eqb, le-ltb}
 use Rattle.std.proofs.lemmas.List.{append-nil, append_assoc, length-append, take_at, drop_at}
-use Rattle.kinds.specs.Bytes.{pair, word}
+use Rattle.kinds.specs.Bytes.{word}
 use Rattle.kinds.specs.Codings.{Coding, Lawful}
 use Rattle.kinds.specs.Kinds.{most_test_width}
 use Rattle.kinds.specs.BytesLemmas.{word_of}
-use Rattle.sheetfile.specs.declared.fault.Cause.TheVariants.{Cut, Tag, Length, Kind, Heads, Tracks, Frames, Test, Thirteenth, Bare, Name, Store}
-use Rattle.sheetfile.specs.declared.fault.Fault.{Fault}
+use Rattle.sheetfile.specs.declared.fault.Cause.TheVariants.{Length, Kind, Heads, Bare}
 use Rattle.sheetfile.specs.Card.{fault}
-use Rattle.sheetfile.specs.Limits.{most_heads, most_signatures, least_frames, most_frames, names, within}
+use Rattle.sheetfile.specs.Limits.{most_heads, most_signatures, least_frames, most_frames, within}
 use Rattle.sheetfile.specs.Sheets.{Signature, Sheet, Each, TrackWithin, SignatureWithin, Rising, Within, test_count, tests_of, all_tests}
 use Rattle.sheetfile.specs.Encoding.{field, track_bytes, signature_body, signature_bytes, encode}
-use Rattle.sheetfile.specs.Outcomes.{Outcome, stop, give, check, on, mapped, into, after, chain}
+use Rattle.sheetfile.specs.Outcomes.{Outcome, check, on, into, after, chain}
 use Rattle.sheetfile.specs.Reading.{field_read, one, tests_read, track_read, track_size, tracks_read, signature_read, signatures_read, rule}
 use Rattle.sheetfile.proofs.Outcomes.{held, is_not, is_within}
 

@@ -1,5 +1,5 @@
 -- A refusal of the reading rule is that of the first check that fails. Assumes nothing.
-use Rattle.std.proofs.Common.{◌≡◌, ℕ, zero, suc, ◌+◌, ◌*◌, ◌<◌, ◌≤◌, Bool, true, false, cond, not, eqb, ltb, leb, List, [], ◌∷◌, ◌++◌, length, get_or, take, drop, is_some, Some, None, Ok, Err, Option, Result, sym, refl, ap, ◌∙◌, subst, arith}
+use Rattle.std.proofs.Common.{◌≡◌, ℕ, zero, suc, ◌+◌, ◌*◌, ◌<◌, Bool, true, false, cond, not, eqb, ltb, leb, List, [], ◌∷◌, ◌++◌, length, get_or, take, drop, is_some, Some, None, Ok, Err, Option, Result, sym, refl, ap, ◌∙◌, subst, arith}
 use Rattle.std.proofs.lemmas.Bool.{eqb-true, ltb-false}
 use Rattle.std.proofs.lemmas.List.{length-take-le, length-drop, get_or-take, get_or-drop}
 use Rattle.kinds.specs.Bytes.{word}
@@ -8,7 +8,7 @@ use Rattle.sheetfile.specs.declared.fault.Cause.TheVariants.{Cut, Tag, Length, K
 use Rattle.sheetfile.specs.declared.fault.Fault.{Fault}
 use Rattle.sheetfile.specs.Card.{Told, told, fault}
 use Rattle.sheetfile.specs.Limits.{most_heads, most_signatures, least_frames, most_frames, within}
-use Rattle.sheetfile.specs.Sheets.{Signature, Sheet, Each, test_count}
+use Rattle.sheetfile.specs.Sheets.{Signature, Sheet, test_count}
 use Rattle.sheetfile.specs.Outcomes.{Outcome, stop, give, check, on, mapped, into, chain}
 use Rattle.sheetfile.specs.Reading.{field_read, one, tests_read, track_read, track_size, tracks_read, signature_read, signatures_read, rule}
 use Rattle.sheetfile.specs.Checks.{Check, or_fault, field_checks, test_checks, track_checks, tracks_checks, signature_checks, signatures_checks, sheet_checks, AllHold, FirstFails}

@@ -1,19 +1,16 @@
 -- Bytes that read as something are the bytes it is written as. Assumes the laws of the kind.
-use Rattle.std.proofs.Common.{◌≡◌, ℕ, zero, suc, ◌+◌, ◌-◌, ◌*◌, ◌/◌, ◌%◌, ◌<◌, ◌≤◌, Bool, true, false, cond, not, eqb, ltb, leb, ◌⊎◌, List, [], ◌∷◌, ◌++◌, length, get_or, take, drop, Some, None, Ok, Err, Option, Result, sym, refl, ap, ◌∙◌, subst, inl, inr, ⊎_elim, suc-mul, zero-mul, arith}
+use Rattle.std.proofs.Common.{◌≡◌, ℕ, zero, suc, ◌+◌, ◌*◌, ◌/◌, ◌%◌, ◌<◌, ◌≤◌, false, not, eqb, leb, List, [], ◌∷◌, ◌++◌, length, get_or, take, drop, Some, None, Ok, Option, sym, refl, ap, ◌∙◌, subst, ⊎_elim, suc-mul, zero-mul, arith}
 use Rattle.std.specs.List.{flat_map}
 use Rattle.std.proofs.lemmas.Bool.{ltb-false, leb-true, eqb-true, eqb-false, not-false, and_parts}
-use Rattle.std.proofs.lemmas.List.{append-nil, drop_all, append_assoc, length-append, length-drop, length-take-le, take-append-drop, drop-drop, nil_from_length, drop_at}
-use Rattle.kinds.specs.Bytes.{pair, word}
+use Rattle.std.proofs.lemmas.List.{append-nil, drop_all, append_assoc, length-append, length-drop, length-take-le, take-append-drop, drop-drop, nil_from_length}
 use Rattle.kinds.specs.Codings.{Coding, Lawful}
 use Rattle.kinds.specs.Kinds.{most_test_width}
-use Rattle.kinds.specs.BytesLemmas.{word_of}
-use Rattle.sheetfile.specs.declared.fault.Cause.TheVariants.{Cut, Tag, Length, Kind, Heads, Tracks, Frames, Test, Thirteenth, Bare, Name, Store}
-use Rattle.sheetfile.specs.declared.fault.Fault.{Fault}
+use Rattle.sheetfile.specs.declared.fault.Cause.TheVariants.{Length, Kind, Heads, Thirteenth, Bare}
 use Rattle.sheetfile.specs.Card.{fault}
-use Rattle.sheetfile.specs.Limits.{most_heads, most_signatures, least_frames, most_frames, names, within}
+use Rattle.sheetfile.specs.Limits.{most_heads, most_signatures, least_frames, most_frames, within}
 use Rattle.sheetfile.specs.Sheets.{Signature, Sheet, Each, TrackWithin, SignatureWithin, Rising, Within, test_count, tests_of, all_tests}
 use Rattle.sheetfile.specs.Encoding.{field, track_bytes, signature_body, signature_bytes, encode}
-use Rattle.sheetfile.specs.Outcomes.{Outcome, stop, give, check, on, mapped, into, after, chain}
+use Rattle.sheetfile.specs.Outcomes.{Outcome, stop, give, check, on, into, chain}
 use Rattle.sheetfile.specs.Reading.{field_read, one, tests_read, track_read, track_size, tracks_read, signature_read, signatures_read, rule}
 use Rattle.sheetfile.proofs.Outcomes.{passed, chosen, went_on, either_way, on_ok, chain_ok, mapped_ok}
 use Rattle.sheetfile.proofs.Back.{spelled, tests_long}

@@ -1,5 +1,5 @@
 -- What reading a part of a file comes to: the tests read, in order, and then what the part says, or a fault.
-use Rattle.std.specs.Prelude.{Bool, cond, List, [], ◌∷◌, ◌++◌, Ok, Err, Result}
+use Rattle.std.specs.Prelude.{Bool, cond, List, [], ◌++◌, Ok, Err, Result}
 use Rattle.sheetfile.specs.declared.fault.Fault.{Fault}
 
 pub record Outcome (T A : Type 0) : Type 0 where

@@ -1,16 +1,15 @@
 -- The sums of entries, and what a plan that is not empty keeps. Assumes nothing.
-use Rattle.std.proofs.Common.{◌≡◌, ℕ, zero, suc, ◌+◌, ◌*◌, ◌<◌, ◌≤◌, Bool, true, false, ◌&&◌, eqb, leb, ◌⊎◌, List, [], ◌∷◌, ◌++◌, map, length, get_or, take, drop, sym, refl, ap, ◌∙◌, subst, inl, inr, ⊎_elim, suc-mul, mul-le-mul, zero-mul, arith}
+use Rattle.std.proofs.Common.{◌≡◌, ℕ, zero, suc, ◌+◌, ◌*◌, ◌≤◌, Bool, true, ◌&&◌, eqb, leb, List, [], ◌∷◌, ◌++◌, map, length, take, drop, refl, ap, ◌∙◌, ⊎_elim, suc-mul, arith}
 use mathlib.Core.Bool.{Bool-set}
 use mathlib.Core.Logic.{∥∥₁_elim}
 use Rattle.std.proofs.lemmas.Bool.{eq-eqb, eqb-true, le-leb, leb-true, and_from, and_parts}
 use Rattle.std.proofs.lemmas.List.{length-take-le, length-drop}
 use Rattle.sheet.specs.declared.entry.Entry.{Entry}
-use Rattle.sheet.specs.Plans.{EntryWithin, EntriesRise, Limits, Empty, Kept}
+use Rattle.sheet.specs.Plans.{EntryWithin, EntriesRise, Kept}
 use Rattle.sheet.specs.Said.{pieces, signature_said}
 use Rattle.sheetfile.specs.Limits.{most_heads, most_frames, most_signatures, least_frames}
-use Rattle.sheetfile.specs.Sheets.{Signature, Each}
-use Rattle.bank.specs.Agreement.{SignatureFitted, Fitted, Stored}
-use Rattle.runs.specs.Theorems.{Regular}
+use Rattle.sheetfile.specs.Sheets.{Each}
+use Rattle.bank.specs.Agreement.{SignatureFitted, Stored}
 use Rattle.station.specs.Making.{tests_in_entries}
 
 -- the limits of entries as a test, in which their tests follow one another from `first` on

@@ -1,27 +1,25 @@
 -- The promise over any list of calls. Assumes nothing but what the calls' own promises say.
-use Rattle.std.proofs.Common.{◌≡◌, ℕ, zero, suc, ◌*◌, ◌<◌, ◌≤◌, Bool, true, false, cond, eqb, List, [], ◌∷◌, map, length, take, Some, None, Ok, Err, Option, Result, sym, refl, ap, ◌∙◌, subst, arith}
+use Rattle.std.proofs.Common.{◌≡◌, ℕ, zero, suc, ◌<◌, ◌≤◌, Bool, true, cond, eqb, List, [], ◌∷◌, map, length, take, Some, Ok, Err, Result, sym, refl, ap, ◌∙◌, subst, arith}
 use Rattle.std.specs.List.{slice_get}
 use Rattle.std.proofs.lemmas.List.{take-take}
-use Rattle.std.proofs.lemmas.Option.{slice_get_past}
 use Rattle.std.proofs.lemmas.Bool.{eqb-true, and_parts}
-use Rattle.matching.specs.Renaming.{Permutes}
 use Rattle.sheetfile.specs.Limits.{most_frames}
-use Rattle.sheetfile.specs.Sheets.{Signature, Each}
-use Rattle.runs.specs.Verdicts.{Verdict, verdict, Agree}
-use Rattle.runs.specs.Calls.{Call, feed, gap, look, look_back, recheck, after, ran, Replugged}
+use Rattle.sheetfile.specs.Sheets.{Signature}
+use Rattle.runs.specs.Verdicts.{Verdict, verdict}
+use Rattle.runs.specs.Calls.{Call, feed, gap, look, look_back, recheck, after, ran}
 use Rattle.runs.specs.Frames.{all_lawful, accepts}
-use Rattle.runs.specs.Theorems.{Regular, Full, Settled}
+use Rattle.runs.specs.Theorems.{Full}
 use Rattle.runs.proofs.Verdicts.{right, placed, latest, replugged}
-use Rattle.runs.proofs.Calls.{settled, ran_full}
+use Rattle.runs.proofs.Calls.{settled}
 use Rattle.runs.proofs.Histories.{there}
-use Rattle.bank.specs.Agreement.{SignatureFitted, Fitted}
+use Rattle.bank.specs.Agreement.{SignatureFitted}
 use Rattle.sheet.specs.Said.{signature_said}
-use Rattle.station.specs.Refusals.{Told, by_number}
-use Rattle.station.specs.Frames.{in_frame, back}
-use Rattle.station.specs.States.{State, signatures, frames, held, TailSound, InStep, SameSheet}
-use Rattle.station.specs.Promises.{feed_answer, Fed, Feeds, Gaps, Looks, Rechecks, Backs, Works, Worked}
+use Rattle.station.specs.Refusals.{Told}
+use Rattle.station.specs.Frames.{back}
+use Rattle.station.specs.States.{State, signatures, frames, held, TailSound, SameSheet}
+use Rattle.station.specs.Promises.{Fed, Looks, Rechecks, Works, Worked}
 use Rattle.station.specs.Following.{Following}
-use Rattle.station.specs.Law.{Made, Reached, Shown, SeenRight, BothAgree, Law}
+use Rattle.station.specs.Law.{Reached, Shown, Law}
 use Rattle.station.proofs.Places.{each_nth}
 use Rattle.station.proofs.Frames.{frames_full}
 use Rattle.station.proofs.Feeding.{passed, passed_accepts}

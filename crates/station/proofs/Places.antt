@@ -1,5 +1,5 @@
 -- Elements in their places. Assumes nothing.
-use Rattle.std.proofs.Common.{◌≡◌, ℕ, zero, suc, ◌<◌, List, [], ◌∷◌, length, get_or, Some, None, subst, arith}
+use Rattle.std.proofs.Common.{◌≡◌, ℕ, zero, suc, ◌<◌, List, [], ◌∷◌, length, get_or, Some, subst, arith}
 use Rattle.std.specs.List.{slice_get}
 use Rattle.sheetfile.specs.Sheets.{Each}
 

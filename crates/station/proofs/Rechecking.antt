@@ -1,5 +1,5 @@
 -- The fits that a table from the tail shows. Assumes nothing.
-use Rattle.std.proofs.Common.{◌≡◌, ℕ, ◌+◌, ◌*◌, ◌<◌, ◌≤◌, Bool, List, [], length, get_or, take, drop, Some, None, Option, sym, refl, ap, ◌∙◌, subst, arith, MatchOption}
+use Rattle.std.proofs.Common.{◌≡◌, ℕ, ◌*◌, ◌≤◌, Bool, List, length, take, drop, Some, None, Option, ap, ◌∙◌, arith, MatchOption}
 use Rattle.matching.specs.Meaning.{Within, Made}
 use Rattle.matching.specs.declared.fits.Fits.{Fits}
 use Rattle.ring.specs.declared.Ring.{Ring}
@@ -13,7 +13,7 @@ use Rattle.sheetfile.specs.Limits.{most_heads}
 use Rattle.bank.specs.Tables.{FitsShown}
 use Rattle.bank.proofs.Cuts.{track_cut}
 use Rattle.station.specs.Frames.{frames_in}
-use Rattle.station.specs.Rechecks.{Keeps, ToldOf, Members, Sets}
+use Rattle.station.specs.Rechecks.{Keeps, ToldOf, Sets}
 
 module _ {T R : Type 0} (passes : T → R → Bool) (heads run : ℕ) (tail : Ring R) (store : List T) (e : Entry) (tests : List T) (cut : tests ≡ take (e.tracks * e.frames) (drop e.first store))
     (table : List ℕ) (long : length table ≡ e.tracks) (sets : Sets (λ t. ToldOf passes heads run tail (take e.frames (drop (t * e.frames) tests))) heads e.tracks table)

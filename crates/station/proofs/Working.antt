@@ -13,7 +13,7 @@ use Rattle.station.specs.Refusals.{Told}
 use Rattle.station.specs.declared.call.Call.{Call as Recorded}
 use Rattle.station.specs.States.{State}
 use Rattle.station.specs.Promises.{Looks, Works, Worked}
-use Rattle.station.specs.Law.{Law, Made, Reached}
+use Rattle.station.specs.Law.{Law, Reached}
 use Rattle.station.specs.Making.{Makes}
 use Rattle.station.specs.Working.{called, at_position, replayed}
 use Rattle.station.proofs.Law.{reached}

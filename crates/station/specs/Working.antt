@@ -1,5 +1,5 @@
 -- Calls as values, and what a replay of them tells.
-use Rattle.std.specs.Prelude.{ℕ, Bool, List, [], map, Some, None, Ok, Err, Option, Result}
+use Rattle.std.specs.Prelude.{ℕ, Bool, List, [], Some, None, Ok, Err, Option, Result}
 use Rattle.std.specs.List.{slice_get}
 use Rattle.runs.specs.Calls.{Call, feed, gap, look, look_back, recheck, ran}
 use Rattle.runs.specs.Verdicts.{Verdict, verdict}

@@ -1,4 +1,3 @@
-use Rattle.std.proofs.Common.{arith}
 use Rattle.bank.proofs.Turns.{found, entry_whole}
 use Rattle.bank.proofs.stepping.step_entry.Goals as goal
 

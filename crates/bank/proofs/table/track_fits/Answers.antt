@@ -1,4 +1,4 @@
-use Rattle.std.proofs.Common.{ℕ, ◌+◌, Bool, sym, ◌∙◌, subst, arith}
+use Rattle.std.proofs.Common.{ℕ, ◌+◌, Bool, sym, subst, arith}
 use Rattle.bank.specs.Words.{word_in}
 use Rattle.bank.specs.Tables.{Shows, TrackShown}
 use Rattle.bank.proofs.Shown.{track_none, track_yes, track_no, shown_whole}

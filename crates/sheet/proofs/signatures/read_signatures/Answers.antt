@@ -1,4 +1,4 @@
-use Rattle.std.proofs.Common.{◌<◌, length, refl, arith, rules}
+use Rattle.std.proofs.Common.{refl, arith, rules}
 use Rattle.std.proofs.lemmas.Result.{err_from_is_err_and}
 use Rattle.sheet.proofs.Turns.{signatures_begin, bytes_of, signatures_end, signatures_cut, signatures_thirteenth, break_here, again_here}
 use Rattle.sheet.proofs.signatures.read_signatures.Goals as goal

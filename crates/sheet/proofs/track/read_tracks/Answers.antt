@@ -1,5 +1,4 @@
-use Rattle.std.proofs.Common.{◌≡◌, ℕ, ◌+◌, ◌*◌, ◌≤◌, sym, ap, ◌∙◌, mul-le-mul, arith, rules}
-use Rattle.sheetfile.specs.Reading.{track_size}
+use Rattle.std.proofs.Common.{◌+◌, ◌*◌, ap, arith, rules}
 use Rattle.std.proofs.lemmas.Result.{err_from_is_err_and}
 use Rattle.sheet.proofs.Tracks.{tracks_begin, track_long, track_room, tracks_again, tracks_break, tracks_end}
 use Rattle.sheet.proofs.track.read_tracks.Goals as goal

@@ -1,4 +1,4 @@
-use Rattle.std.proofs.Common.{◌≡◌, ℕ, suc, ◌+◌, ◌-◌, ◌*◌, ◌<◌, ◌≤◌, List, length, take, drop, sym, ap, ◌∙◌, subst, suc-mul, mul-le-mul, arith, rules}
+use Rattle.std.proofs.Common.{◌≡◌, ℕ, suc, ◌+◌, ◌-◌, ◌*◌, ◌<◌, ◌≤◌, length, take, drop, subst, suc-mul, mul-le-mul, arith, rules}
 use Rattle.station.specs.Rechecks.{ToldOf, Members}
 use Rattle.station.proofs.Tailing.{sets_none, sets_more, sets_all}
 use Rattle.station.proofs.recheck.fill_from_tail.Goals as goal

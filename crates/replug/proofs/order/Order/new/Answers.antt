@@ -1,4 +1,4 @@
-use Rattle.std.proofs.Common.{sym, refl, ap, ◌∙◌}
+use Rattle.std.proofs.Common.{sym, ap, ◌∙◌}
 use Rattle.replug.proofs.order.Order.new.Goals as goal
 
 -- a socket that stays free has no head in any order
