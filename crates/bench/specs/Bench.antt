@@ -1,8 +1,7 @@
 -- The customer's worked lines that concern sheets and kinds, as facts about the definitions.
-use Rattle.std.specs.Prelude.{◌≡◌, ℕ, true, false, List, [], ◌∷◌, replicate, pos, neg_ℤ, Some, None, Ok, Err, Option, Result}
+use Rattle.std.specs.Prelude.{◌≡◌, ℕ, true, false, List, [], ◌∷◌, replicate, pos, neg_ℤ, Some, None, Ok, Err, Result}
 use Rattle.kinds.specs.declared.band.BandSet.{BandSet}
 use Rattle.kinds.specs.declared.climate.ClimateReading.{ClimateReading}
-use Rattle.kinds.specs.Codings.{Coding}
 use Rattle.kinds.specs.Bands.{band_facts}
 use Rattle.kinds.specs.Spans.{span_facts}
 use Rattle.kinds.specs.Climates.{climate_facts}
@@ -10,7 +9,6 @@ use Rattle.kinds.specs.Kinds.{Facts}
 use Rattle.sheetfile.specs.declared.fault.Fault.{Fault}
 use Rattle.sheetfile.specs.Card.{Told, told}
 use Rattle.sheetfile.specs.Encoding.{encode}
-use Rattle.sheetfile.specs.Outcomes.{Outcome}
 use Rattle.sheetfile.specs.Reading.{rule}
 use Rattle.sheetfile.specs.Sheets.{Signature, Sheet}
 

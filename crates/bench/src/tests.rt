@@ -57,9 +57,7 @@ fn changed_refuses(
     layer: u8,
     place: usize,
 ) -> Result<(), Fail> {
-    refuses(rt, &changed(at, byte), 16, number, layer, place).note(
-        "the good sheet with a byte changed",
-    )
+    refuses(rt, &changed(at, byte), 16, number, layer, place)
 }
 
 // 10, 11, 12, 13, 14 and 19 of the head field.
