@@ -1,5 +1,5 @@
 -- The reports at a frame, one signature more at a time. Assumes the laws of verdicts.
-use Rattle.std.proofs.Common.{◌≡◌, ℕ, zero, suc, ◌+◌, ◌<◌, ◌≤◌, Bool, List, [], ◌∷◌, ◌++◌, map, length, get_or, take, Some, Ok, Result, sym, refl, ap, ◌∙◌, subst, arith}
+use Rattle.std.proofs.Common.{◌≡◌, ℕ, ◌+◌, ◌<◌, ◌≤◌, Bool, List, [], ◌∷◌, ◌++◌, length, get_or, take, Some, Result, sym, refl, ap, ◌∙◌, subst, arith}
 use Rattle.std.specs.List.{slice_get}
 use Rattle.std.proofs.lemmas.List.{append-nil, append_assoc, take_more, take_all, length-map, get_or-map}
 use Rattle.std.proofs.lemmas.Option.{slice_get-get_or}
@@ -10,7 +10,7 @@ use Rattle.sheet.specs.declared.entry.Entry.{Entry}
 use Rattle.sheet.specs.Said.{signature_said}
 use Rattle.sheetfile.specs.Sheets.{Signature}
 use Rattle.station.specs.Refusals.{Told}
-use Rattle.station.specs.States.{State, signatures}
+use Rattle.station.specs.States.{State}
 use Rattle.station.specs.Following.{Following}
 use Rattle.station.specs.Promises.{Looks}
 use Rattle.station.proofs.Law.{look_is}

@@ -1,15 +1,15 @@
 -- Reading a run file: more bytes behind, and one event after another. Assumes nothing.
-use Rattle.std.proofs.Common.{◌≡◌, ℕ, zero, suc, ◌+◌, ◌*◌, ◌<◌, ◌≤◌, Bool, true, false, cond, ◌||◌, eqb, ltb, List, [], ◌∷◌, ◌++◌, length, get_or, take, drop, Some, None, Ok, Err, Option, Result, sym, refl, ap, ◌∙◌, subst, arith}
+use Rattle.std.proofs.Common.{◌≡◌, ℕ, zero, suc, ◌+◌, ◌*◌, ◌≤◌, Bool, true, false, cond, eqb, ltb, List, ◌∷◌, ◌++◌, length, get_or, take, drop, Some, None, Ok, Err, Option, Result, sym, refl, ap, ◌∙◌, subst, arith}
 use Rattle.std.proofs.lemmas.Bool.{or_parts, or_from, ltb-false, le-ltb, cond-true, cond-false}
 use Rattle.std.proofs.lemmas.List.{length-append, length-drop, length-take-le, get_or_append_left, take-append-le, drop-append-le}
 use Rattle.kinds.specs.Bytes.{word}
 use Rattle.kinds.specs.Codings.{Coding}
 use Rattle.sheetfile.specs.declared.fault.Fault.{Fault}
-use Rattle.sheetfile.specs.declared.fault.Cause.TheVariants.{Cut, Tag, Length, LongRun}
+use Rattle.sheetfile.specs.declared.fault.Cause.TheVariants.{Tag, Length, LongRun}
 use Rattle.sheetfile.specs.Card.{fault}
 use Rattle.runfile.specs.Fields.{Part, framed, gapped, unfinished, run_field, tagged, size, frame_tag, gap_tag}
 use Rattle.listing.specs.Events.{Event, frame, gap, frames_of, gaps_of}
-use Rattle.listing.specs.Scanning.{frames_with, gaps_with, Step, waits, faulty, brings, Scan, ends, fails, first, on_step, event_of, too_many, by_event, by_field, step_at, scan, scanned}
+use Rattle.listing.specs.Scanning.{frames_with, gaps_with, Step, waits, faulty, brings, Scan, ends, fails, first, on_step, event_of, too_many, by_event, by_field, step_at, scan}
 
 -- a field that is finished lies in the bytes
 pub record Finished (xs : List ℕ) : Type 0 where

@@ -1,5 +1,5 @@
 -- The listing of a run file against a sheet, byte by byte.
-use Rattle.std.specs.Prelude.{ℕ, Bool, List, [], ◌∷◌, ◌++◌, Some, None, Ok, Err, Option, Result}
+use Rattle.std.specs.Prelude.{ℕ, List, [], ◌∷◌, ◌++◌, Some, None, Ok, Err, Option, Result}
 use Rattle.kinds.specs.Kinds.{Facts}
 use Rattle.lines.specs.Lines.{report_lines, end_line, fault_line}
 use Rattle.sheetfile.specs.declared.fault.Fault.{Fault}
