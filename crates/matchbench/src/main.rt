@@ -1,7 +1,7 @@
 //! How many outcomes a second, over random tables and over those that take longest.
 //!
 //! The counts of outcomes, with a sum over what they say, go to standard output and are the same on each run; the times go to
-//! standard error. `target/bin/matchbench 100` takes a hundred times as many tables of each family, for steadier times.
+//! standard error. `out/matchbench 100` takes a hundred times as many tables of each family, for steadier times.
 #![tactic(auto)]
 
 use matching::{Fits, Outcome};
