@@ -2,7 +2,7 @@
 use Rattle.std.proofs.Common.{◌≡◌, ℕ, zero, suc, ◌<◌, ◌≤◌, Bool, true, false, ◌↔◌, List, [], ◌∷◌, length, get_or, take, sym, ap, ◌∙◌, subst, ⊎_elim, arith}
 use Rattle.std.proofs.lemmas.Bool.{cond-true, cond-false, lt-ltb, le-ltb, cases_lt}
 use Rattle.std.proofs.lemmas.List.{length-take}
-use Rattle.matching.specs.Answer.{Answer, seen, short, answer, Right as Right-answer}
+use Rattle.matching.specs.Answer.{Answer, seen, short, answer, Right as RightAnswer}
 use Rattle.matching.specs.Fitting.{Alike}
 use Rattle.matching.specs.Placings.{Placeable}
 use Rattle.matching.specs.Renaming.{Permutes, Renames, SameWord}
@@ -40,7 +40,7 @@ module _ {T R : Type 0} (passes : T → R → Bool) (N : ℕ) (s : Signature T) 
     unfolding verdict
     is_judged h = cond-false _ _ _ (le-ltb (length run) s.frames h)
 
-    judged_right : s.frames ≤ length run → (a : Answer) → Right-answer (fits passes s run) M N a → Right passes N s run (judged a)
+    judged_right : s.frames ≤ length run → (a : Answer) → RightAnswer (fits passes s run) M N a → Right passes N s run (judged a)
     judged_right h (seen heads) r = (h, r.0)
     judged_right h (short set) r = (h, r.0, r.1)
 
@@ -54,7 +54,7 @@ module _ {T R : Type 0} (passes : T → R → Bool) (N : ℕ) (s : Signature T) 
     pub only : (v : Verdict) → Right passes N s run v → v ≡ verdict passes N s run
     only young h = sym (is_young h)
     only (seen_on heads) h =
-        let r : Right-answer (fits passes s run) M N (seen heads) = (h.1, λ set k. (hall_holds (fits passes s run) M N).not_both heads set h.1.places k) in
+        let r : RightAnswer (fits passes s run) M N (seen heads) = (h.1, λ set k. (hall_holds (fits passes s run) M N).not_both heads set h.1.places k) in
         ap judged (answer_only (fits passes s run) M N (seen heads) r) ∙ sym (is_judged h.0)
     only (short_of set) h =
         ap judged (answer_only (fits passes s run) M N (short set) (h.1, h.2)) ∙ sym (is_judged h.0)
@@ -73,7 +73,7 @@ module _ {T R : Type 0} (passes : T → R → Bool) (N : ℕ) (s : Signature T) 
         let y : ◌≡◌ {A = ℕ} 0 1 = cc in
         omega arith
 
-    seen_placed : (a : Answer) → Right-answer (fits passes s run) M N a → IsSeen (judged a) ↔ Placeable (fits passes s run) M N
+    seen_placed : (a : Answer) → RightAnswer (fits passes s run) M N a → IsSeen (judged a) ↔ Placeable (fits passes s run) M N
     seen_placed (seen heads) r = ((λ u. (heads, r.0.places)), (λ p. tt))
     seen_placed (short set) r = ((λ u. absurd u), (λ p. r.1 p.0 p.1))
 
