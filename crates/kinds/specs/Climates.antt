@@ -19,9 +19,9 @@ abbrev pub temperature_lawful : ℤ → Bool
 temperature_lawful x = int_le least_temperature x && int_le x most_temperature
 
 -- a signed number as 16 bits, in two's complement, and back
-abbrev pub temperature_bits : ℤ → ℕ
-temperature_bits (pos n) = n
-temperature_bits (negsuc n) = 65536 - suc n
+abbrev pub to_bits : ℤ → ℕ
+to_bits (pos n) = n
+to_bits (negsuc n) = 65536 - suc n
 
 abbrev pub of_bits : ℕ → ℤ
 of_bits w = cond (nat_lt w 32768) (pos w) (negsuc (65535 - w))
@@ -34,7 +34,7 @@ abbrev pub in_temperatures : TemperatureSpan → ℤ → Bool
 in_temperatures t x = int_le t.low x && int_le x t.high
 
 abbrev pub temperatures_bytes : TemperatureSpan → List ℕ
-temperatures_bytes t = pair (temperature_bits t.low) ++ pair (temperature_bits t.high)
+temperatures_bytes t = pair (to_bits t.low) ++ pair (to_bits t.high)
 
 abbrev pub temperatures_at : List ℕ → ℕ → TemperatureSpan
 temperatures_at bs i = record { low = of_bits (word bs i); high = of_bits (word bs (i + 2)) }
@@ -60,7 +60,7 @@ abbrev pub climate_lawful : ClimateReading → Bool
 climate_lawful x = moisture_lawful x.moisture && temperature_lawful x.temperature
 
 abbrev pub reading_bytes : ClimateReading → List ℕ
-reading_bytes x = pair x.moisture ++ pair (temperature_bits x.temperature)
+reading_bytes x = pair x.moisture ++ pair (to_bits x.temperature)
 
 abbrev pub reading_at : List ℕ → ClimateReading
 reading_at bs = record { moisture = word bs 0; temperature = of_bits (word bs 2) }

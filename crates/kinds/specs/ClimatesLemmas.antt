@@ -9,13 +9,13 @@ use Rattle.kinds.specs.Bytes.{sized, pair, word}
 use Rattle.kinds.specs.Codings.{Lawful}
 use Rattle.kinds.specs.Kinds.{most_test_width, most_reading_width}
 use Rattle.kinds.specs.Spans.{moisture_lawful, most_moisture, span_sound}
-use Rattle.kinds.specs.Climates.{least_temperature, most_temperature, temperature_lawful, temperature_bits, of_bits, temperatures_sound, temperatures_bytes, temperatures_at, climate_sound, climate_bytes, climate_at, climate_tests, climate_lawful, reading_bytes, reading_at, climate_readings}
+use Rattle.kinds.specs.Climates.{least_temperature, most_temperature, temperature_lawful, to_bits, of_bits, temperatures_sound, temperatures_bytes, temperatures_at, climate_sound, climate_bytes, climate_at, climate_tests, climate_lawful, reading_bytes, reading_at, climate_readings}
 use Rattle.kinds.specs.BytesLemmas.{Octets, each_octet, sized_from, pair_at, word_small, pair_octets, word_of}
 use Rattle.kinds.specs.SpansLemmas.{span_fits, span_back}
 use Rattle.kinds.specs.CodingsLemmas.{fixed_lawful}
 
 -- 16 bits, and back
-pub bits_back : (w : ℕ) → w < 65536 → temperature_bits (of_bits w) ≡ w
+pub bits_back : (w : ℕ) → w < 65536 → to_bits (of_bits w) ≡ w
 bits_back w h = grind arith
 
 -- the language's own reading of 16 bits is the same
@@ -24,7 +24,7 @@ bits_are n z h e = grind (arith, ints)
 
 -- the bytes of the signed number at place i, and that they are the two that stand there
 abbrev bits : List ℕ → ℕ → List ℕ
-bits bs i = pair (temperature_bits (of_bits (word bs i)))
+bits bs i = pair (to_bits (of_bits (word bs i)))
 
 bits_at : (n : ℕ) (bs : List ℕ) → Octets n bs → (i : ℕ) → bits bs i ≡ slice_index bs i ∷ slice_index bs (i + 1) ∷ []
 bits_at n bs h i = ap pair (bits_back (word bs i) (word_small n bs h i)) ∙ pair_at n bs h i
@@ -44,8 +44,8 @@ reading_is bs a y all p q = let t = bits_are (word bs 2) y (word_small 4 bs (eac
 
 -- a temperature in bounds fits 16 bits, and comes back from them
 pub record Fits (z : ℤ) : Type 0 where
-  pub few : temperature_bits z < 65536
-  pub back : of_bits (temperature_bits z) ≡ z
+  pub few : to_bits z < 65536
+  pub back : of_bits (to_bits z) ≡ z
 
 pub fits : (z : ℤ) → int_le least_temperature z ≡ true → int_le z most_temperature ≡ true → Fits z
 fits (pos n) l h = let k = leb-true n 2500 h in record { few = omega arith; back = cond-true _ _ _ (lt-ltb n 32768 (omega arith)) }
@@ -72,9 +72,9 @@ climate_tests_lawful =
     let k = t.temperature in
     let g = ends_fit k p.1 in (
       sized_from 8 (climate_bytes t) refl
-          (pair_octets m.low (pair m.high ++ temperatures_bytes k) (pair_octets m.high (temperatures_bytes k) (pair_octets (temperature_bits k.low) (pair (temperature_bits k.high)) (pair_octets (temperature_bits k.high) [] refl)))),
+          (pair_octets m.low (pair m.high ++ temperatures_bytes k) (pair_octets m.high (temperatures_bytes k) (pair_octets (to_bits k.low) (pair (to_bits k.high)) (pair_octets (to_bits k.high) [] refl)))),
       ap (λ s. record { moisture = s; temperature = temperatures_at (temperatures_bytes k) 0 }) (span_back m f.0 f.1)
-          ∙ ap (λ z. record { moisture = m; temperature = record { low = z; high = of_bits (word (pair (temperature_bits k.high)) 0) } }) (ap of_bits (word_of _ g.0.few) ∙ g.0.back)
+          ∙ ap (λ z. record { moisture = m; temperature = record { low = z; high = of_bits (word (pair (to_bits k.high)) 0) } }) (ap of_bits (word_of _ g.0.few) ∙ g.0.back)
           ∙ ap (λ z. record { moisture = m; temperature = record { low = k.low; high = z } }) (ap of_bits (word_of _ g.1.few) ∙ g.1.back),
     ))
     (λ bs h. eight bs (each_octet 8 bs h))
@@ -95,8 +95,8 @@ climate_readings_lawful =
     let m = leb-true x.moisture most_moisture p.0 in
     let q = and_parts (int_le least_temperature x.temperature) (int_le x.temperature most_temperature) p.1 in
     let f = fits x.temperature q.0 q.1 in (
-      sized_from 4 (reading_bytes x) refl (pair_octets x.moisture (pair (temperature_bits x.temperature)) (pair_octets (temperature_bits x.temperature) [] refl)),
-      ap (λ n. record { moisture = n; temperature = of_bits (word (pair (temperature_bits x.temperature)) 0) }) (word_of x.moisture (omega arith))
+      sized_from 4 (reading_bytes x) refl (pair_octets x.moisture (pair (to_bits x.temperature)) (pair_octets (to_bits x.temperature) [] refl)),
+      ap (λ n. record { moisture = n; temperature = of_bits (word (pair (to_bits x.temperature)) 0) }) (word_of x.moisture (omega arith))
           ∙ ap (λ z. record { moisture = x.moisture; temperature = z }) (ap of_bits (word_of _ f.few) ∙ f.back),
     ))
     (λ bs h. four bs (each_octet 4 bs h))

@@ -11,7 +11,7 @@ use Rattle.sheetfile.specs.declared.fault.Cause.TheVariants.{Length, Kind, Heads
 use Rattle.sheetfile.specs.Card.{fault}
 use Rattle.sheetfile.specs.Limits.{most_heads, most_signatures, least_frames, most_frames, within}
 use Rattle.sheetfile.specs.Sheets.{Signature, Sheet, Each, TrackWithin, SignatureWithin, Rising, Within, test_count, tests_of, all_tests}
-use Rattle.sheetfile.specs.Encoding.{field, track_bytes, signature_body_bytes, signature_bytes, encode}
+use Rattle.sheetfile.specs.Encoding.{field, track_bytes, signature_body, signature_bytes, encode}
 use Rattle.sheetfile.specs.Outcomes.{Outcome, check, on, into, after, chain}
 use Rattle.sheetfile.specs.Reading.{field_read, one, tests_read, track_read, track_size, tracks_read, signature_read, signatures_read, rule}
 use Rattle.sheetfile.proofs.Outcomes.{held, is_not, is_within}
@@ -88,21 +88,21 @@ module _ {T : Type 0} (k : Coding T) (law : Lawful most_test_width k) where
   tests_long m (ts ∷ tss) h =
       length-append ts (flat_map (λ us. us) tss) ∙ omega (arith, h.0.long, tests_long m tss h.1, suc-mul (length tss) m)
 
-  signature_long : (heads : ℕ) (s : Signature T) → SignatureWithin k heads s → length (signature_body_bytes k s) ≡ 4 + length s.tracks * track_size k s.frames
-  unfolding signature_body_bytes
+  signature_long : (heads : ℕ) (s : Signature T) → SignatureWithin k heads s → length (signature_body k s) ≡ 4 + length s.tracks * track_size k s.frames
+  unfolding signature_body
   signature_long heads s h = omega (arith, tracks_long s.frames s.tracks h.tracks)
 
-  pub signature_small : (heads : ℕ) (s : Signature T) → heads ≤ most_heads → SignatureWithin k heads s → length (signature_body_bytes k s) < 65536
+  pub signature_small : (heads : ℕ) (s : Signature T) → heads ≤ most_heads → SignatureWithin k heads s → length (signature_body k s) < 65536
   signature_small heads s few h =
       let one_track = few_bytes s.frames h.few_frames in
       let m : length s.tracks ≤ 8 = omega (arith, h.few_tracks) in
       let t : track_size k s.frames ≤ 515 = omega arith in
       omega (arith, signature_long heads s h, mul-le-mul m t)
 
-  pub signature_back : (room heads least used at : ℕ) (s : Signature T) → SignatureWithin k heads s → least ≤ s.name → used + test_count s ≤ room → signature_read k room heads least used at (signature_body_bytes k s) ≡ record { tests = tests_of s; end = Ok s }
-  unfolding signature_body_bytes
+  pub signature_back : (room heads least used at : ℕ) (s : Signature T) → SignatureWithin k heads s → least ≤ s.name → used + test_count s ≤ room → signature_read k room heads least used at (signature_body k s) ≡ record { tests = tests_of s; end = Ok s }
+  unfolding signature_body
   signature_back room heads least used at s h low fits =
-      let body = signature_body_bytes k s in
+      let body = signature_body k s in
       let m = s.frames in
       let named = word_of s.name h.name in
       let ys = flat_map (track_bytes k) s.tracks in
@@ -122,7 +122,7 @@ module _ {T : Type 0} (k : Coding T) (law : Lawful most_test_width k) where
   signatures_back room heads (suc left) least used at [] few more up each fits = refl
   signatures_back room heads zero least used at (s ∷ ss) few more up each fits = absurd (omega arith)
   signatures_back room heads (suc left) least used at (s ∷ ss) few more up each fits =
-      let body = signature_body_bytes k s in
+      let body = signature_body k s in
       let ys = flat_map (signature_bytes k) ss in
       let size = 3 + length body in
       let count = tests_long s.frames s.tracks each.0.tracks in

@@ -9,7 +9,7 @@ use Rattle.sheetfile.specs.declared.fault.Cause.TheVariants.{Length, Kind, Heads
 use Rattle.sheetfile.specs.Card.{fault}
 use Rattle.sheetfile.specs.Limits.{most_heads, most_signatures, least_frames, most_frames, within}
 use Rattle.sheetfile.specs.Sheets.{Signature, Sheet, Each, TrackWithin, SignatureWithin, Rising, Within, test_count, tests_of, all_tests}
-use Rattle.sheetfile.specs.Encoding.{field, track_bytes, signature_body_bytes, signature_bytes, encode}
+use Rattle.sheetfile.specs.Encoding.{field, track_bytes, signature_body, signature_bytes, encode}
 use Rattle.sheetfile.specs.Outcomes.{Outcome, stop, give, check, on, into, chain}
 use Rattle.sheetfile.specs.Reading.{field_read, one, tests_read, track_read, track_size, tracks_read, signature_read, signatures_read, rule}
 use Rattle.sheetfile.proofs.Outcomes.{passed, chosen, went_on, either_way, on_ok, chain_ok, mapped_ok}
@@ -135,14 +135,14 @@ module _ {T : Type 0} (k : Coding T) (law : Lawful most_test_width k) where
       subst (λ (vs : List (List T)). TracksOnly m (suc left) xs (tracks_read k m (suc left) at xs) vs) q.2 all
 
   pub record SignatureOnly (room heads least used : ℕ) (body : List ℕ) (r : Outcome T (Signature T)) (s : Signature T) : Type 0 where
-    pub bytes : body ≡ signature_body_bytes k s
+    pub bytes : body ≡ signature_body k s
     pub within : SignatureWithin k heads s
     pub low : least ≤ s.name
     pub fits : used + test_count s ≤ room
     pub tests : r.tests ≡ tests_of s
 
   pub signature_only : (room heads least used at : ℕ) (body : List ℕ) (s : Signature T) → Bytes body → (signature_read k room heads least used at body).end ≡ Ok s → SignatureOnly room heads least used body (signature_read k room heads least used at body) s
-  unfolding signature_body_bytes
+  unfolding signature_body
   signature_only room heads least used at [] s b h = let z : ◌≡◌ {A = ℕ} 0 1 = cc in absurd (omega arith)
   signature_only room heads least used at (x ∷ []) s b h = let z : ◌≡◌ {A = ℕ} 0 1 = cc in absurd (omega arith)
   signature_only room heads least used at (x ∷ y ∷ []) s b h = let z : ◌≡◌ {A = ℕ} 0 1 = cc in absurd (omega arith)

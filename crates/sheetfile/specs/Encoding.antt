@@ -23,11 +23,11 @@ unfoldable pub track_bytes : {T : Type 0} → Coding T → List T → List ℕ
 track_bytes k ts = field track_tag (flat_map k.bytes ts)
 
 -- a signature's body: name, number of tracks, number of frames, tracks
-unfoldable pub signature_body_bytes : {T : Type 0} → Coding T → Signature T → List ℕ
-signature_body_bytes k s = pair s.name ++ (length s.tracks ∷ s.frames ∷ flat_map (track_bytes k) s.tracks)
+unfoldable pub signature_body : {T : Type 0} → Coding T → Signature T → List ℕ
+signature_body k s = pair s.name ++ (length s.tracks ∷ s.frames ∷ flat_map (track_bytes k) s.tracks)
 
 unfoldable pub signature_bytes : {T : Type 0} → Coding T → Signature T → List ℕ
-signature_bytes k s = field signature_tag (signature_body_bytes k s)
+signature_bytes k s = field signature_tag (signature_body k s)
 
 -- a sheet: the head field with kind code and number of heads, then the signatures
 unfoldable pub encode : {T : Type 0} → Coding T → Sheet T → List ℕ

@@ -1,6 +1,6 @@
 use Rattle.std.proofs.Common.{refl}
 use Rattle.sheetfile.specs.Reading.{rule, signatures_read, tracks_read, tests_read}
-use Rattle.sheetfile.specs.Encoding.{encode, signature_bytes, signature_body_bytes, track_bytes}
+use Rattle.sheetfile.specs.Encoding.{encode, signature_bytes, signature_body, track_bytes}
 use Rattle.matching.specs.Answer.{answer}
 use Rattle.runs.specs.Verdicts.{verdict}
 use Rattle.bench.specs.Bench.{WorkedLines}
@@ -8,7 +8,7 @@ use Rattle.bench.specs.StationLines.{StationLines}
 use Rattle.bench.proofs.worked_lines.Goals as goal
 
 sheet_lines : WorkedLines
-unfolding rule signatures_read tracks_read tests_read encode signature_bytes signature_body_bytes track_bytes
+unfolding rule signatures_read tracks_read tests_read encode signature_bytes signature_body track_bytes
 sheet_lines =
     record {
       reads_301 = refl;

@@ -12,12 +12,8 @@ use crate::fits::MOST_TRACKS;
 // A set of free heads that leaves none is marked in `hopeless`, so that no set is searched twice: which tracks are left
 // follows from the size of the set, since each track before took one of the eight heads.
 fn place(rows: &[u8], track: usize, free: u8, hopeless: &mut [bool], heads: &mut [u8]) -> bool
-    requires track_within { track ≤ length rows.now }
-    requires few_tracks { length rows.now ≤ 8 }
-    requires heads_len { length heads.old ≡ length rows.now }
-    requires hopeless_len { length hopeless.old ≡ 256 }
-    requires free_size { track + size free ≡ 8 }
-    requires honest { Honest rows.now hopeless.old }
+    requires track_in_bounds { (track ≤ length rows.now) × ((length rows.now ≤ 8) × ((length heads.old ≡ length rows.now) × (length hopeless.old ≡ 256))) }
+    requires free_value { (track + size free ≡ 8) × (Honest rows.now hopeless.old) }
     ensures found { onward rows.now track free ≡ (if result then Some (drop track heads.new) else None) }
     ensures honest { Honest rows.now hopeless.new }
 {

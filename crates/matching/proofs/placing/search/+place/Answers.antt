@@ -25,7 +25,7 @@ pub place-requires : goal.place-requires
 place-requires t c =
     let n = next c.loop-left.invariant c.loop-left-test.true in
     let k = size_taken c.args.free (count_trailing_zeros 8 c.loop-left.left) n.low n.is_free in
-    (search rules, (omega arith, (omega arith, (omega arith, (omega arith, (omega (arith, k), c.loop-left.invariant.honest))))))
+    (search rules, ((omega arith, (omega arith, (omega arith, omega arith))), (omega (arith, k), c.loop-left.invariant.honest)))
 
 -- The track stands on the head, and the tracks after it are placed.
 pub returns-then-place : goal.returns-then-place

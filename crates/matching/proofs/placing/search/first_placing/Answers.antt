@@ -12,14 +12,7 @@ returns-then-contains c =
 
 pub place-requires : goal.place-requires
 place-requires c =
-    record {
-      track_within = omega arith;
-      few_tracks = c.requires;
-      heads_len = simp length-take (omega arith);
-      hopeless_len = refl;
-      free_size = omega (arith, size_all);
-      honest = honest_fresh c.args.rows.now 256;
-    }
+    record { track_in_bounds = (omega arith, (c.requires, (simp length-take (omega arith), refl))); free_value = (omega (arith, size_all), honest_fresh c.args.rows.now 256) }
 
 -- The heads of the tracks, and eight zeros where there is no track.
 pub invariant_of-result : goal.invariant_of-result
