@@ -1,3 +1,2 @@
 pub mod Turn
-pub mod Back
 pub mod Tails

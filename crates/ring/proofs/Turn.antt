@@ -86,17 +86,6 @@ turn {X} s capacity at count at' count' x ok here on round more =
     ∙ cut (A ++ B) x y capacity count lz ok.held
     ∙ ap (λ l. take capacity (x ∷ take count l)) (sym old)
 
--- It stays sound.
-pub turn_sound : {X : Type 0} (s : List X) (capacity at count at' count' : ℕ) (x : X) → Sound s capacity at count → at < capacity
-    → (at + 1 < capacity → at' ≡ at + 1) → (at + 1 ≡ capacity → at' ≡ 0) → count' ≡ min (count + 1) capacity
-    → Sound (set s at x) capacity at' count'
-turn_sound s capacity at count at' count' x ok here on round more =
-    record {
-      room = simp length-set ok.room;
-      place = λ _. elim (cases_lt (at + 1) capacity) [ inl l ↦ omega (arith, on l) | inr l ↦ let e : at + 1 ≡ capacity = omega arith in omega (arith, round e) ];
-      held = omega arith;
-    }
-
 -- A ring with no room holds nothing, before an item as after it.
 pub no_room : {X : Type 0} (s : List X) (capacity at count : ℕ) (x : X) → Sound s capacity at count → (at < capacity → ⊥)
     → latest s capacity at count ≡ take capacity (x ∷ latest s capacity at count)

@@ -1,11 +1,9 @@
 // A ring of the latest items, over slots that its owner lends.
 #![tactic(auto)]
 
-ghost use Rattle.std.specs.Prelude.{◌≡◌, min, [], ◌∷◌, ◌++◌, reverse, length, take};
-ghost use Rattle.std.specs.List.{slice_get};
-ghost use Rattle.ring.specs.Rings.{holds, unused, Good};
+ghost use Rattle.ring.specs.Latest.{Sound};
 
-use place::{item_at, one_more, place_after, place_back};
+use place::{place_after, place_back};
 
 mod place;
 mod size;
@@ -18,12 +16,16 @@ pub struct Ring<'a, T> {
     capacity: usize,
     next: usize,
     count: usize,
+    ghost sound: { Sound slots.now capacity next count },
 }
 
 impl<'a, T: Copy> Ring<'a, T> {
+    ghost use Rattle.std.specs.Prelude.{◌≡◌, min, [], ◌∷◌, ◌++◌, reverse, length, take};
+    ghost use Rattle.std.specs.List.{slice_get};
+    ghost use Rattle.ring.specs.Rings.{holds, unused};
+
     // An empty ring. It holds at most as many items as there are slots.
     pub fn new(slots: &'a mut [T], capacity: usize) -> Ring<'a, T>
-        ensures good { Good result }
         ensures holds { holds result ≡ [] }
         ensures capacity { result.capacity ≡ min capacity (length slots.old) }
         ensures slots { result.slots.now ≡ slots.old }
@@ -40,7 +42,6 @@ impl<'a, T: Copy> Ring<'a, T> {
 
     // Lets go of every item.
     pub fn clear(&mut self)
-        ensures good { Good self.old → Good self.new }
         ensures holds { holds self.new ≡ [] }
         ensures unused { unused self.new ≡ unused self.old }
         ensures capacity { self.new.capacity ≡ self.old.capacity }
@@ -53,25 +54,23 @@ impl<'a, T: Copy> Ring<'a, T> {
 
     // Adds an item; a full ring lets go of the oldest one.
     pub fn push(&mut self, item: T)
-        ensures good { Good self.old → Good self.new }
-        ensures holds { Good self.old → holds self.new ≡ take self.old.capacity (item ∷ holds self.old) }
+        ensures holds { holds self.new ≡ take self.old.capacity (item ∷ holds self.old) }
         ensures unused { unused self.new ≡ unused self.old }
         ensures capacity { self.new.capacity ≡ self.old.capacity }
         ensures lent { self.new.slots.ghost_name ≡ self.old.slots.ghost_name }
     {
-        let i = self.next;
-        if i >= self.capacity || i >= self.slots.len() {
+        if self.capacity == 0 {
             return;
         }
+        let i = self.next;
         self.slots[i] = item;
         self.next = place_after(i, self.capacity);
-        self.count = one_more(self.count, self.capacity);
+        self.count = self.count.saturating_add(1).min(self.capacity);
     }
 
     // Adds the items in their order, so that the last one is the newest.
     pub fn push_all(&mut self, items: &[T])
-        ensures good { Good self.old → Good self.new }
-        ensures holds { Good self.old → holds self.new ≡ take self.old.capacity (reverse items.now ++ holds self.old) }
+        ensures holds { holds self.new ≡ take self.old.capacity (reverse items.now ++ holds self.old) }
         ensures unused { unused self.new ≡ unused self.old }
         ensures capacity { self.new.capacity ≡ self.old.capacity }
         ensures lent { self.new.slots.ghost_name ≡ self.old.slots.ghost_name }
@@ -83,11 +82,12 @@ impl<'a, T: Copy> Ring<'a, T> {
 
     // The item q back from the newest, which is at 0; none where fewer are held.
     pub fn get(&self, q: usize) -> Option<T>
-        ensures { Good self.now → result ≡ slice_get (holds self.now) q }
+        ensures { result ≡ slice_get (holds self.now) q }
     {
-        if q >= self.count || q >= self.capacity {
-            return None;
+        if q < self.count {
+            Some(self.slots[place_back(self.next, self.capacity, q)])
+        } else {
+            None
         }
-        item_at(&*self.slots, place_back(self.next, self.capacity, q))
     }
 }

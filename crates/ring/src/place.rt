@@ -1,6 +1,5 @@
 // Places in a round of `capacity` slots.
-ghost use Rattle.std.specs.Prelude.{◌≡◌, ◌+◌, ◌-◌, ◌<◌, ◌≤◌, min};
-ghost use Rattle.std.specs.List.{slice_get};
+ghost use Rattle.std.specs.Prelude.{◌≡◌, ◌+◌, ◌-◌, ◌<◌, ◌≤◌};
 
 // The place after a place.
 pub(crate) fn place_after(at: usize, capacity: usize) -> usize
@@ -21,27 +20,5 @@ pub(crate) fn place_back(next: usize, capacity: usize, q: usize) -> usize
         next - 1 - q
     } else {
         capacity - 1 - (q - next)
-    }
-}
-
-// One more, up to the capacity.
-pub(crate) fn one_more(count: usize, capacity: usize) -> usize
-    ensures { result ≡ min (count + 1) capacity }
-{
-    if count < capacity {
-        count + 1
-    } else {
-        capacity
-    }
-}
-
-// The item in slot i, if there is such a slot.
-pub(crate) fn item_at<T: Copy>(slots: &[T], i: usize) -> Option<T>
-    ensures { result ≡ slice_get slots.now i }
-{
-    if i < slots.len() {
-        Some(slots[i])
-    } else {
-        None
     }
 }

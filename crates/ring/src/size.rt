@@ -1,13 +1,13 @@
 // How much a ring holds.
 ghost use Rattle.std.specs.Prelude.{◌≡◌, length};
-ghost use Rattle.ring.specs.Rings.{holds, Good};
+ghost use Rattle.ring.specs.Rings.{holds};
 
 use crate::Ring;
 
 impl<'a, T: Copy> Ring<'a, T> {
     // How many items are held.
     pub fn len(&self) -> usize
-        ensures { Good self.now → result ≡ length (holds self.now) }
+        ensures { result ≡ length (holds self.now) }
     {
         self.count
     }

@@ -3,4 +3,4 @@ use Rattle.ring.proofs.Turn.{length_latest}
 use Rattle.ring.proofs.Ring.len.Goals as goal
 
 pub returns : goal.returns
-returns g c ok = sym (length_latest _ _ _ _ ok)
+returns g c = sym (length_latest _ _ _ _ c.args.self.now.sound)
