@@ -2,6 +2,4 @@ pub mod Items
 pub mod Moves
 pub mod Cuts
 pub mod Turns
-pub mod Agreeing
-pub mod Shown
 pub mod Premises

@@ -10,10 +10,9 @@ use Rattle.sheetfile.specs.Sheets.{Signature, Each}
 use Rattle.bank.specs.declared.Bank.{Bank}
 use Rattle.bank.specs.Words.{word_at}
 
--- The row of each signature, track and head tells of the track's tests on that head's readings:
--- the row of the signature in position p, of track t and head h, stands at p * 64 + t * 8 + h.
+-- The row of each signature, track and head tells of the track's tests on that head's readings.
 pub record Agrees {T R : Type 0} (passes : T → R → Bool) (N : ℕ) (signatures : List (Signature T)) (run : List (List R)) (bank : Bank) : Type 0 where
-  pub tells : (p : ℕ) (s : Signature T) → slice_get signatures p ≡ Some s → (t h : ℕ) → t < length s.tracks → h < N → Tells passes (slice_index_or s.tracks t []) (history h run) (word_at bank (p * 64 + t * 8 + h))
+  pub tells : (p : ℕ) (s : Signature T) → slice_get signatures p ≡ Some s → (t h : ℕ) → t < length s.tracks → h < N → Tells passes (slice_index_or s.tracks t []) (history h run) (word_at bank p t h)
 
 -- 1 to 8 tracks, each of 1 to 64 tests, one for each frame
 pub record SignatureFitted {T : Type 0} (s : Signature T) : Type 0 where

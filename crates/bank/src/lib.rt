@@ -3,36 +3,23 @@
 
 ghost use Rattle.std.specs.Prelude.{◌≡◌, ℕ, List, [], ◌∷◌, map, length, Some, MatchOption};
 ghost use Rattle.std.specs.List.{slice_get};
-ghost use Rattle.runs.specs.Verdicts.{fits};
 ghost use Rattle.sheet.specs.Said.{signature_said};
 ghost use Rattle.sheetfile.specs.Sheets.{Signature};
 ghost use Rattle.bank.specs.Agreement.{Agrees, Fitted, Stored};
-ghost use Rattle.bank.specs.Tables.{FitsShown};
 
 use kinds::kind::Kind;
-use matching::Fits;
 use rows::Row;
 use sheet::entry::Entry;
 use sheetfile::limits::{MOST_HEADS, MOST_SIGNATURES};
-use stepping::step_entries;
-use table::signature_fits;
+use signature_rows::SignatureRows;
 
-mod stepping;
-mod table;
+mod signature_rows;
+mod track_rows;
 
-// rows of a track: one for each head
-pub(crate) const TRACK_ROWS: usize = MOST_HEADS;
-
-// rows of a signature: there are at most as many tracks as heads
-pub(crate) const SIGNATURE_ROWS: usize = MOST_HEADS * TRACK_ROWS;
-
-const ROWS: usize = MOST_SIGNATURES * SIGNATURE_ROWS;
-
-// The row of the signature in position p, of track t and head h, stands at p * 64 + t * 8 + h:
-// there are rows for 12 signatures of 8 tracks on 8 heads.
+// For each signature, track and head a row: there are rows for 12 signatures of 8 tracks on 8 heads.
 #[derive(Clone, Copy)]
 pub struct Bank {
-    rows: [Row; ROWS],
+    signatures: [SignatureRows; MOST_SIGNATURES],
 }
 
 impl Bank {
@@ -40,8 +27,10 @@ impl Bank {
     pub fn new<K: Kind>(kind: K) -> Bank
         ensures { (N : ℕ) (signatures : List (Signature K.Test)) → Agrees K.facts.passes N signatures [] result }
     {
-        let row = Row::new(kind);
-        Bank { rows: [row; ROWS] }
+        let signature = SignatureRows::of(Row::new(kind));
+        Bank {
+            signatures: [signature; MOST_SIGNATURES],
+        }
     }
 
     // One accepted frame more.
@@ -54,32 +43,11 @@ impl Bank {
     )
         ensures { (run : List (List K.Reading)) → Fitted (length frame.now) (map (signature_said tests.now) entries.now) → Stored entries.now tests.now → Agrees K.facts.passes (length frame.now) (map (signature_said tests.now) entries.now) run self.old → Agrees K.facts.passes (length frame.now) (map (signature_said tests.now) entries.now) (frame.now ∷ run) self.new }
     {
-        step_entries(kind, entries, tests, &mut self.rows, frame);
-    }
-
-    // Which head fits which track of a signature at the newest frame. The entry has the signature's figures.
-    // `None` for a position, tracks or heads that a bank has no rows for.
-    pub fn fits<K: Kind>(
-        &self,
-        kind: K,
-        position: usize,
-        entry: &Entry,
-        heads: usize,
-    ) -> Option<Fits>
-        ensures { (signatures : List (Signature K.Test)) (run : List (List K.Reading)) (s : Signature K.Test) → Fitted heads signatures → slice_get signatures position ≡ Some s → entry.now.tracks ≡ length s.tracks → entry.now.frames ≡ s.frames → Agrees K.facts.passes heads signatures run self.now → MatchOption result ⊥ (FitsShown (length s.tracks) heads (fits K.facts.passes s run)) }
-    {
-        let tracks = entry.tracks as usize;
-        if position >= MOST_SIGNATURES || tracks > MOST_HEADS || heads > MOST_HEADS {
-            return None;
+        for (p, signature) in self.signatures.iter_mut().enumerate() {
+            let Some(entry) = entries.get(p) else {
+                return;
+            };
+            signature.step(kind, entry, tests, frame);
         }
-        let row = position * SIGNATURE_ROWS;
-        let mut table = [0u8; MOST_HEADS];
-        signature_fits(
-            kind,
-            entry.frames as usize,
-            heads,
-            &self.rows[row..row + SIGNATURE_ROWS],
-            &mut table[0..tracks],
-        )
     }
 }

@@ -1,6 +1,0 @@
-use Rattle.std.proofs.Common.{refl}
-use Rattle.bank.proofs.Agreeing.{agrees_new}
-use Rattle.bank.proofs.Bank.new.Goals as goal
-
-pub returns : goal.returns
-returns g c N signatures = agrees_new g.K.Kind.facts.passes N signatures _ c.new-row.result refl c.new-row.ensures

@@ -1,0 +1,49 @@
+// The rows of one signature.
+ghost use Rattle.std.specs.Prelude.{◌≡◌, replicate};
+ghost use Rattle.bank.specs.Steps.{SignatureStepped};
+
+use crate::track_rows::TrackRows;
+use kinds::kind::Kind;
+use rows::Row;
+use sheet::entry::Entry;
+use sheetfile::limits::MOST_HEADS;
+
+// The rows of each track: there are at most as many tracks as heads.
+#[derive(Clone, Copy)]
+pub(crate) struct SignatureRows {
+    tracks: [TrackRows; MOST_HEADS],
+}
+
+impl SignatureRows {
+    // The same row for each track and head.
+    pub(crate) fn of(row: Row) -> SignatureRows
+        ensures { result.tracks ≡ replicate 8 (record { heads = replicate 8 row }) }
+    {
+        SignatureRows {
+            tracks: [TrackRows::of(row); MOST_HEADS],
+        }
+    }
+
+    // One frame more. Where the store is too short for the entry's tests, nothing is done.
+    pub(crate) fn step<K: Kind>(
+        &mut self,
+        kind: K,
+        entry: &Entry,
+        store: &[K::Test],
+        frame: &[K::Reading],
+    )
+        ensures { SignatureStepped K.facts.passes store.now entry.now frame.now self.old self.new }
+    {
+        let Some(tests) = entry.tests_in(store) else {
+            return;
+        };
+        let frames = entry.frames as usize;
+        for (t, track) in self.tracks.iter_mut().enumerate() {
+            let first = t * frames;
+            let Some(tests) = tests.get(first..first + frames) else {
+                return;
+            };
+            track.step(kind, tests, frame);
+        }
+    }
+}
