@@ -1,5 +1,5 @@
 -- What the types of the code mean.
-use Rattle.std.specs.Prelude.{◌≡◌, ℕ, ◌^◌, ◌<◌, ◌≤◌, List, length, take, slice_index}
+use Rattle.std.specs.Prelude.{◌≡◌, ℕ, ◌^◌, ◌<◌, ◌≤◌, Bool, List, length, take, slice_index}
 use Rattle.matching.specs.declared.fits.Fits.{Fits}
 use Rattle.matching.specs.declared.placing.Placing.{Placing}
 use Rattle.matching.specs.declared.outcome.Outcome.{Outcome}
@@ -38,3 +38,9 @@ pub record Made (heads : ℕ) (rows : List ℕ) (f : Fits) : Type 0 where
   pub same_heads : f.heads ≡ heads
   pub same_tracks : f.tracks ≡ length rows
   pub same_fits : (t h : ℕ) → fitting f t h ≡ table rows t h
+
+-- A `Fits` of so many tracks and heads that is as said: `Says` holds of each track, each head and whether the head fits the track.
+pub record AsSaid (Says : ℕ → ℕ → Bool → Type 0) (tracks heads : ℕ) (f : Fits) : Type 0 where
+  pub same_tracks : f.tracks ≡ tracks
+  pub same_heads : f.heads ≡ heads
+  pub each : (t h : ℕ) → t < tracks → h < heads → Says t h (fitting f t h)

@@ -2,7 +2,11 @@
 ghost use Rattle.std.specs.Prelude.{◌≡◌, ℕ, ◌^◌, ◌<◌, ◌≤◌, slice_index};
 ghost use Rattle.matching.specs.Limits.{most_tracks, most_heads};
 
+mod making;
 mod methods;
+mod witness;
+
+pub use witness::Witness;
 
 /// The most tracks that a table can have.
 pub const MOST_TRACKS: usize = 8;

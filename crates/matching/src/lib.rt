@@ -9,7 +9,7 @@ mod placing;
 mod short;
 mod theorems;
 
-pub use fits::{Fits, MOST_HEADS, MOST_TRACKS};
+pub use fits::{Fits, MOST_HEADS, MOST_TRACKS, Witness};
 pub use outcome::Outcome;
 pub use placing::Placing;
 pub use short::TrackSet;
