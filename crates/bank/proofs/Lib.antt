@@ -2,4 +2,6 @@ pub mod Items
 pub mod Moves
 pub mod Cuts
 pub mod Turns
+pub mod Agreeing
+pub mod Shown
 pub mod Premises

@@ -1,5 +1,5 @@
 -- One frame more over heads, tracks and entries. Assumes nothing.
-use Rattle.std.proofs.Common.{◌≡◌, ℕ, ◌+◌, ◌*◌, ◌<◌, ◌≤◌, Bool, true, false, cond, leb, List, [], length, get_or, take, drop, Some, None, subst, refl, ap, ◌∙◌, arith}
+use Rattle.std.proofs.Common.{◌≡◌, ℕ, ◌+◌, ◌*◌, ◌<◌, ◌≤◌, Bool, true, false, cond, leb, List, length, get_or, take, drop, Some, None, subst, refl, ap, ◌∙◌, arith}
 use Rattle.std.specs.List.{slice_get}
 use Rattle.std.proofs.lemmas.Option.{slice_get_read}
 use Rattle.std.proofs.lemmas.Bool.{leb-true}
@@ -9,7 +9,7 @@ use Rattle.sheet.specs.declared.entry.Entry.{Entry}
 use Rattle.sheet.specs.Parts.{part_of}
 use Rattle.bank.specs.declared.track_rows.TrackRows.{TrackRows}
 use Rattle.bank.specs.declared.signature_rows.SignatureRows.{SignatureRows}
-use Rattle.bank.specs.Words.{blank, blank_track, word_of}
+use Rattle.bank.specs.Words.{blank, no_heads, word_of}
 use Rattle.bank.specs.Steps.{Stepped, TrackStepped, SignatureStepped}
 use Rattle.bank.proofs.Cuts.{track_cut}
 use Rattle.bank.proofs.Items.{same_item}
@@ -47,9 +47,13 @@ module _ {T R : Type 0} (passes : T → R → Bool) where
   abbrev pub TrackRule : ℕ → List T → List R → ℕ → TrackRows → TrackRows → Type 0
   TrackRule frames tests frame t old new = TrackStepped passes (take frames (drop (t * frames) tests)) frame old new
 
+  -- the tests that the code cuts out for a track
+  pub track_turn : (frames : ℕ) (tests cut : List T) (frame : List R) (t : ℕ) {old new : TrackRows} → cut ≡ take frames (drop (t * frames) tests) → TrackStepped passes cut frame old new → TrackRule frames tests frame t old new
+  track_turn frames tests cut frame t {old = old} {new = new} is s = subst (λ (ts : List T). TrackStepped passes ts frame old new) is s
+
   -- all tracks, from the tests that the entry finds in the store
   pub signature_end : (store : List T) (e : Entry) (frame : List R) (tests : List T) (n : ℕ) (old new : SignatureRows) → Some tests ≡ part_of e store
-      → Moved (TrackRule e.frames tests frame) blank_track n old.tracks new.tracks → ((t : ℕ) → t < 8 → t < e.tracks → t < n) → SignatureStepped passes store e frame old new
+      → Moved (TrackRule e.frames tests frame) no_heads n old.tracks new.tracks → ((t : ℕ) → t < 8 → t < e.tracks → t < n) → SignatureStepped passes store e frame old new
   signature_end store e frame tests n old new is m all =
       record {
         each = λ stored t h x lt ft fh at.
@@ -58,3 +62,12 @@ module _ {T R : Type 0} (passes : T → R → Bool) where
             (ap (λ ts. take e.frames (drop (t * e.frames) ts)) cut ∙ track_cut e.frames e.tracks t (drop e.first store) lt)
             ((m.done t (all t ft lt)).each h x fh at);
       }
+
+  -- what the rows of a signature have gone through, by its position
+  abbrev pub EntryRule : List T → List Entry → List R → ℕ → SignatureRows → SignatureRows → Type 0
+  EntryRule store entries frame p old new = (e : Entry) → slice_get entries p ≡ Some e → SignatureStepped passes store e frame old new
+
+  -- the entry that the code reads
+  pub entry_turn : (store : List T) (entries : List Entry) (frame : List R) (p : ℕ) (e d : Entry) {old new : SignatureRows} → p < length entries → e ≡ get_or entries p d → SignatureStepped passes store e frame old new → EntryRule store entries frame p old new
+  entry_turn store entries frame p e d {old = old} {new = new} l is s e' at =
+      subst (λ (x : Entry). SignatureStepped passes store x frame old new) (same_item entries p e e' (slice_get_read entries (length entries) p e refl l (is ∙ get_or_default entries p d e l)) at) s

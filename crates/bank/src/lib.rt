@@ -3,16 +3,21 @@
 
 ghost use Rattle.std.specs.Prelude.{◌≡◌, ℕ, List, [], ◌∷◌, map, length, Some, MatchOption};
 ghost use Rattle.std.specs.List.{slice_get};
+ghost use Rattle.runs.specs.Verdicts.{fits};
 ghost use Rattle.sheet.specs.Said.{signature_said};
 ghost use Rattle.sheetfile.specs.Sheets.{Signature};
 ghost use Rattle.bank.specs.Agreement.{Agrees, Fitted, Stored};
+ghost use Rattle.bank.specs.Tables.{FitsShown};
 
+use complete::CompleteMatches;
 use kinds::kind::Kind;
+use matching::Fits;
 use rows::Row;
 use sheet::entry::Entry;
 use sheetfile::limits::{MOST_HEADS, MOST_SIGNATURES};
 use signature_rows::SignatureRows;
 
+mod complete;
 mod signature_rows;
 mod track_rows;
 
@@ -49,5 +54,27 @@ impl Bank {
             };
             signature.step(kind, entry, tests, frame);
         }
+    }
+
+    // Which head fits which track of a signature at the newest frame. The entry has the signature's figures.
+    // `None` for a position, tracks or heads that a bank has no rows for.
+    pub fn fits<K: Kind>(
+        &self,
+        kind: K,
+        position: usize,
+        entry: &Entry,
+        heads: usize,
+    ) -> Option<Fits>
+        ensures { (signatures : List (Signature K.Test)) (run : List (List K.Reading)) (s : Signature K.Test) → Fitted heads signatures → slice_get signatures position ≡ Some s → entry.now.tracks ≡ length s.tracks → entry.now.frames ≡ s.frames → Agrees K.facts.passes heads signatures run self.now → MatchOption result ⊥ (FitsShown (length s.tracks) heads (fits K.facts.passes s run)) }
+    {
+        let Some(signature) = self.signatures.get(position) else {
+            return None;
+        };
+        let witness = CompleteMatches {
+            kind,
+            frames: entry.frames as usize,
+            signature,
+        };
+        Fits::of(entry.tracks as usize, heads, &witness)
     }
 }

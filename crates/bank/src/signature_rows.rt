@@ -1,6 +1,7 @@
 // The rows of one signature.
-ghost use Rattle.std.specs.Prelude.{◌≡◌, replicate};
+ghost use Rattle.std.specs.Prelude.{◌≡◌, replicate, MatchOption};
 ghost use Rattle.bank.specs.Steps.{SignatureStepped};
+ghost use Rattle.bank.specs.Words.{word_of};
 
 use crate::track_rows::TrackRows;
 use kinds::kind::Kind;
@@ -22,6 +23,13 @@ impl SignatureRows {
         SignatureRows {
             tracks: [TrackRows::of(row); MOST_HEADS],
         }
+    }
+
+    // The row of a track and head, where there is one.
+    pub(crate) fn row(&self, track: usize, head: usize) -> Option<&Row>
+        ensures { MatchOption result (word_of self.now track head ≡ 0) (λ row. row.now.word ≡ word_of self.now track head) }
+    {
+        self.tracks.get(track)?.heads.get(head)
     }
 
     // One frame more. Where the store is too short for the entry's tests, nothing is done.

@@ -9,7 +9,7 @@ use sheetfile::limits::MOST_HEADS;
 // A row for each head.
 #[derive(Clone, Copy)]
 pub(crate) struct TrackRows {
-    heads: [Row; MOST_HEADS],
+    pub(crate) heads: [Row; MOST_HEADS],
 }
 
 impl TrackRows {

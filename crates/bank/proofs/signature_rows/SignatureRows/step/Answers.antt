@@ -1,11 +1,10 @@
-use Rattle.std.proofs.Common.{◌≡◌, ℕ, ◌+◌, ◌-◌, ◌*◌, ◌<◌, ◌≤◌, List, length, take, drop, ap, ◌∙◌, subst, sym, inl, inr, arith}
+use Rattle.std.proofs.Common.{◌≡◌, ℕ, ◌+◌, ◌-◌, ◌*◌, ◌<◌, ◌≤◌, length, take, drop, ap, ◌∙◌, inl, inr, arith}
 use Rattle.std.proofs.lemmas.Bool.{cases_lt}
 use Rattle.std.proofs.lemmas.List.{length-set}
 use Rattle.sheet.specs.declared.entry.Entry.{Entry}
-use Rattle.bank.specs.Steps.{TrackStepped}
 use Rattle.bank.proofs.Cuts.{track_end}
 use Rattle.bank.proofs.Moves.{moved_more, moved_same}
-use Rattle.bank.proofs.Turns.{found, signature_end}
+use Rattle.bank.proofs.Turns.{found, track_turn, signature_end}
 use Rattle.bank.proofs.signature_rows.SignatureRows.step.Goals as goal
 
 -- a track that has tests stands before one that has none
@@ -34,10 +33,11 @@ loop-t-preserved g c =
     let all = c.in-Some.tests.now in
     let first : ℕ = c.loop-t.t * e.frames in
     let width : first + e.frames - first ≡ e.frames = omega arith in
-    let cut : c.in-Some-get.tests.now ≡ take e.frames (drop first all) = read.2 ∙ ap (λ n. take n (drop first all)) width in
-    (simp length-set c.loop-t.invariant.0,
+    let cut : c.in-Some-get.tests.now ≡ take e.frames (drop first all) = read.2 ∙ ap (λ n. take n (drop first all)) width in (
+      simp length-set c.loop-t.invariant.0,
       moved_more _ c.loop-t.invariant.1 (omega (arith, c.loop-t.invariant.0))
-          (subst (λ (ts : List g.row.K-Test.Denot). TrackStepped g.K.Kind.facts.passes ts c.args.frame.now _ _) cut c.step.ensures))
+          (track_turn g.K.Kind.facts.passes e.frames all c.in-Some-get.tests.now c.args.frame.now c.loop-t.t cut c.step.ensures),
+    )
 
 pub returns : goal.returns
 returns g c =

@@ -1,5 +1,5 @@
 use Rattle.std.proofs.Common.{◌≡◌, length}
-use Rattle.bank.specs.Words.{blank_track}
+use Rattle.bank.specs.Words.{no_heads}
 use Rattle.bank.proofs.Moves.{Moved}
 use Rattle.bank.proofs.Turns.{TrackRule}
 use Rattle.bank.proofs.signature_rows.SignatureRows.step.Given as goal
@@ -7,4 +7,4 @@ use Rattle.bank.proofs.signature_rows.SignatureRows.step.Given as goal
 abbrev pub invariant-loop-t : goal.invariant-loop-t
 invariant-loop-t g l =
     (length l.track-items ≡ 8)
-    × Moved (TrackRule g.K.Kind.facts.passes l.frames l.tests l.frame) blank_track l.t l.initial.track-items l.track-items
+    × Moved (TrackRule g.K.Kind.facts.passes l.frames l.tests l.frame) no_heads l.t l.initial.track-items l.track-items

@@ -1,6 +1,5 @@
-use Rattle.std.proofs.Common.{rules, arith, refl, get_or}
+use Rattle.std.proofs.Common.{arith}
 use Rattle.std.proofs.lemmas.List.{length-set}
-use Rattle.bank.specs.Words.{blank}
 use Rattle.bank.proofs.Moves.{moved_more}
 use Rattle.bank.proofs.Turns.{head_turn}
 use Rattle.bank.proofs.track_rows.TrackRows.step.Goals as goal
