@@ -16,7 +16,7 @@ use Rattle.bank.specs.declared.Bank.{Bank}
 use Rattle.bank.specs.Words.{blank, no_heads, no_tracks, word_in, word_of, word_at}
 use Rattle.bank.specs.Agreement.{Agrees, Fitted, SignatureFitted, Stored}
 use Rattle.bank.specs.Steps.{SignatureStepped}
-use Rattle.bank.proofs.Cuts.{pieces_count}
+use Rattle.sheet.proofs.Cuts.{pieces_count}
 use Rattle.bank.proofs.Items.{nth_below, each_at, nth_map}
 
 -- every track of a fitted signature has one test for each frame

@@ -1,6 +1,5 @@
 pub mod Items
 pub mod Moves
-pub mod Cuts
 pub mod Turns
 pub mod Agreeing
 pub mod Shown

@@ -7,7 +7,7 @@ use Rattle.sheet.specs.Said.{pieces, signature_said}
 use Rattle.sheetfile.specs.Limits.{most_heads, most_signatures}
 use Rattle.sheetfile.specs.Sheets.{Each}
 use Rattle.bank.specs.Agreement.{SignatureFitted, Fitted, Stored}
-use Rattle.bank.proofs.Cuts.{pieces_count}
+use Rattle.sheet.proofs.Cuts.{pieces_count}
 
 module _ {T : Type 0} where
   -- pieces of a list that is long enough are all of the same length

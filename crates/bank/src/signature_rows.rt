@@ -42,13 +42,8 @@ impl SignatureRows {
     )
         ensures { SignatureStepped K.facts.passes store.now entry.now frame.now self.old self.new }
     {
-        let Some(tests) = entry.tests_in(store) else {
-            return;
-        };
-        let frames = entry.frames as usize;
         for (t, track) in self.tracks.iter_mut().enumerate() {
-            let first = t * frames;
-            let Some(tests) = tests.get(first..first + frames) else {
+            let Some(tests) = entry.track_tests(t, store) else {
                 return;
             };
             track.step(kind, tests, frame);

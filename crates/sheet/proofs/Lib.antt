@@ -5,3 +5,4 @@ pub mod Turns
 pub mod Heads
 pub mod Plans
 pub mod Verdicts
+pub mod Cuts

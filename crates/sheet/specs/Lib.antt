@@ -4,3 +4,4 @@ pub mod Parts
 pub mod Plans
 pub mod Filled
 pub mod Said
+pub mod TrackParts

@@ -7,5 +7,6 @@ mod read;
 mod signature;
 mod signatures;
 mod track;
+mod track_tests;
 
 pub use read::read_sheet;

@@ -4,7 +4,6 @@ pub mod Feeding
 pub mod Keeping
 pub mod Entries
 pub mod Made
-pub mod Tailing
 pub mod Rechecking
 pub mod Looking
 pub mod Law

@@ -1,6 +1,8 @@
 pub mod Refusals
 pub mod Answers
 pub mod Frames
+pub mod Tails
+pub mod Due
 pub mod States
 pub mod Promises
 pub mod Following

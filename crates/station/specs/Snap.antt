@@ -5,13 +5,13 @@ use Rattle.station.specs.States.{State}
 abbrev pub snap : {K R T : Type 0} → Station K R T → State T R
 snap w =
     record {
-      heads = w.heads;
+      heads = w.tail.heads;
       entries = w.entries.now;
       tests = w.tests.now;
-      slots = w.tail.slots.now;
-      capacity = w.tail.capacity;
-      next = w.tail.next;
-      count = w.tail.count;
+      slots = w.tail.readings.slots.now;
+      capacity = w.tail.readings.capacity;
+      next = w.tail.readings.next;
+      count = w.tail.readings.count;
       bank = w.bank;
-      run = w.run;
+      run = w.tail.run;
     }

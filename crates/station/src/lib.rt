@@ -2,7 +2,6 @@
 #![tactic(auto)]
 
 pub mod call;
-mod judging;
 pub mod making;
 mod recheck;
 pub mod refusal;

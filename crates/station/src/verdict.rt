@@ -1,7 +1,12 @@
 // What a look tells.
-use matching::{Placing, TrackSet};
+ghost use Rattle.std.specs.Prelude.{◌≡◌};
+ghost use Rattle.matching.specs.Meaning.{answer_of};
+ghost use Rattle.runs.specs.Verdicts.{judged};
+ghost use Rattle.station.specs.Answers.{verdict_of};
 
-#[derive(Clone, Copy)]
+use matching::{Outcome, Placing, TrackSet};
+
+#[derive(Clone, Copy, PartialEq, Eq, Debug)]
 pub enum Verdict {
     // the run has fewer frames than the signature
     Young,
@@ -9,4 +14,16 @@ pub enum Verdict {
     Seen(Placing),
     // these tracks together fit fewer heads than they number
     Short(TrackSet),
+}
+
+// The verdict on tracks that have enough frames.
+impl From<Outcome> for Verdict {
+    ghost from_gives = { λ outcome verdict. verdict_of verdict ≡ judged (answer_of outcome) };
+
+    fn from(outcome: Outcome) -> Verdict {
+        match outcome {
+            Outcome::Seen(placing) => Verdict::Seen(placing),
+            Outcome::Short(set) => Verdict::Short(set),
+        }
+    }
 }

@@ -7,4 +7,4 @@ use Rattle.bank.proofs.signature_rows.SignatureRows.step.Given as goal
 abbrev pub invariant-loop-t : goal.invariant-loop-t
 invariant-loop-t g l =
     (length l.track-items ≡ 8)
-    × Moved (TrackRule g.K.Kind.facts.passes l.frames l.tests l.frame) no_heads l.t l.initial.track-items l.track-items
+    × Moved (TrackRule g.K.Kind.facts.passes l.store l.entry l.frame) no_heads l.t l.initial.track-items l.track-items
