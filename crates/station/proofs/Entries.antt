@@ -1,9 +1,10 @@
 -- The sums of entries, and what a plan that is not empty keeps. Assumes nothing.
-use Rattle.std.proofs.Common.{◌≡◌, ℕ, zero, suc, ◌+◌, ◌*◌, ◌≤◌, Bool, true, ◌&&◌, eqb, leb, List, [], ◌∷◌, ◌++◌, map, length, take, drop, refl, ap, ◌∙◌, ⊎_elim, suc-mul, arith}
+use Rattle.std.proofs.Common.{◌≡◌, ℕ, zero, suc, ◌+◌, ◌*◌, ◌≤◌, Bool, true, ◌&&◌, eqb, leb, List, [], ◌∷◌, ◌++◌, map, length, sum_by, take, drop, refl, ap, ◌∙◌, ⊎_elim, suc-mul, arith}
 use mathlib.Core.Bool.{Bool-set}
 use mathlib.Core.Logic.{∥∥₁_elim}
 use Rattle.std.proofs.lemmas.Bool.{eq-eqb, eqb-true, le-leb, leb-true, and_from, and_parts}
 use Rattle.std.proofs.lemmas.List.{length-take-le, length-drop}
+use Rattle.std.proofs.lemmas.List.Sums.{sum_by-cons}
 use Rattle.sheet.specs.declared.entry.Entry.{Entry}
 use Rattle.sheet.specs.Plans.{EntryWithin, EntriesRise, Kept}
 use Rattle.sheet.specs.Said.{pieces, signature_said}
@@ -11,6 +12,11 @@ use Rattle.sheetfile.specs.Limits.{most_heads, most_frames, most_signatures, lea
 use Rattle.sheetfile.specs.Sheets.{Each}
 use Rattle.bank.specs.Agreement.{SignatureFitted, Stored}
 use Rattle.station.specs.Making.{tests_in_entries}
+
+-- the tests of entries, summed in their order
+pub tests_summed : (es : List Entry) → sum_by (λ e. e.tracks * e.frames) es ≡ tests_in_entries es
+tests_summed [] = refl
+tests_summed (e ∷ es) = sum_by-cons (λ e. e.tracks * e.frames) e es ∙ ap (λ n. e.tracks * e.frames + n) (tests_summed es)
 
 -- the limits of entries as a test, in which their tests follow one another from `first` on
 abbrev pub entry_fine : ℕ → ℕ → Entry → Bool
@@ -85,8 +91,3 @@ module _ {T : Type 0} (store : List T) where
         few_tracks = (omega arith, more.few_tracks);
         count = ap suc more.count;
       }
-
--- the sum so far
-pub tests_more : (es : List Entry) (e : Entry) → tests_in_entries (es ++ e ∷ []) ≡ tests_in_entries es + e.tracks * e.frames
-tests_more [] e = omega arith
-tests_more (x ∷ es) e = ap (λ n. x.tracks * x.frames + n) (tests_more es e) ∙ omega arith

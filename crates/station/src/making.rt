@@ -9,24 +9,15 @@ use sheet::entry::Entry;
 use sheet::plan::Plan;
 use sheetfile::limits::MOST_FRAMES;
 
-// How many tests an entry has.
-fn tests_of(entry: &Entry) -> usize
-    ensures is { result ≡ entry.now.tracks * entry.now.frames }
-    ensures few { result ≤ 65025 }
-{
-    entry.tracks as usize * entry.frames as usize
-}
-
 // How many tests the entries have.
 fn tests_in(entries: &[Entry]) -> usize
     requires { length entries.now ≤ 12 }
     ensures { result ≡ tests_in_entries entries.now }
 {
-    let mut sum = 0;
-    for entry in entries {
-        sum += tests_of(entry);
-    }
-    sum
+    entries
+        .iter()
+        .map(|entry| entry.tracks as usize * entry.frames as usize)
+        .sum()
 }
 
 // Whether a station can be made of these: the empty plan, another kind's plan, a store shorter than the plan's tests
