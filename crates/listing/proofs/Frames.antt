@@ -3,8 +3,7 @@ use Rattle.std.proofs.Common.{◌≡◌, ℕ, ◌+◌, ◌<◌, ◌≤◌, Bool,
 use Rattle.std.specs.List.{slice_get}
 use Rattle.std.proofs.lemmas.List.{append-nil, append_assoc, take_more, take_all, length-map, get_or-map}
 use Rattle.std.proofs.lemmas.Option.{slice_get-get_or}
-use Rattle.lines.specs.Lines.{Report, report_lines}
-use Rattle.ring.specs.declared.Ring.{Ring}
+use Rattle.lines.specs.Lines.{Report}
 use Rattle.runs.specs.Verdicts.{Verdict, verdict}
 use Rattle.sheet.specs.declared.entry.Entry.{Entry}
 use Rattle.sheet.specs.Said.{signature_said}
@@ -14,10 +13,11 @@ use Rattle.station.specs.States.{State}
 use Rattle.station.specs.Following.{Following}
 use Rattle.station.specs.Promises.{Looks}
 use Rattle.station.proofs.Law.{look_is}
-use Rattle.listing.specs.declared.report.Report.{Report as KeptReport}
+use Rattle.listing.specs.declared.reporting.Listing.{Listing}
+use Rattle.listing.specs.Listed.{Lists}
 use Rattle.listing.specs.Reports.{reported, at_frame}
-use Rattle.listing.specs.Kept.{looked, Adds}
-use Rattle.listing.proofs.Kept.{lines_append, adds_none, adds_more}
+use Rattle.listing.specs.Kept.{looked}
+use Rattle.listing.proofs.Kept.{lists_none, lists_more}
 
 module _ {T R : Type 0} (lawful : R → Bool) (passes : T → R → Bool) where
   frame_append : (N : ℕ) (ss ts : List (Signature T)) (number : ℕ) (run : List (List R)) → at_frame passes N (ss ++ ts) number run ≡ at_frame passes N ss number run ++ at_frame passes N ts number run
@@ -26,18 +26,16 @@ module _ {T R : Type 0} (lawful : R → Bool) (passes : T → R → Bool) where
       ap (λ rs. reported number g.name (verdict passes N g run) ++ rs) (frame_append N ss ts number run)
       ∙ sym (append_assoc (reported number g.name (verdict passes N g run)) (at_frame passes N ss number run) (at_frame passes N ts number run))
 
-  module _ (s : State T R) (number : ℕ) (old : Ring KeptReport) (before : List ℕ) where
+  module _ (s : State T R) (number : ℕ) (old : Listing) where
     -- after the first i signatures
-    pub record FrameTurn (i : ℕ) (new : Ring KeptReport) (now-out : List ℕ) : Type 0 where
-      pub added : (N : ℕ) (sheet : List (Signature T)) (run : List (List R)) → Following lawful passes N sheet run s → Adds (at_frame passes N (take i sheet) number run) old new
-      pub wrote : (N : ℕ) (sheet : List (Signature T)) (run : List (List R)) → Following lawful passes N sheet run s → now-out ≡ before ++ report_lines (at_frame passes N (take i sheet) number run)
+    pub record FrameTurn (i : ℕ) (new : Listing) : Type 0 where
+      pub lists : (N : ℕ) (sheet : List (Signature T)) (run : List (List R)) → Following lawful passes N sheet run s → Lists (at_frame passes N (take i sheet) number run) old new
 
-    pub frame_begin : FrameTurn 0 old before
-    frame_begin = record { added = λ N sheet run h. adds_none old; wrote = λ N sheet run h. sym (append-nil before) }
+    pub frame_begin : FrameTurn 0 old
+    frame_begin = record { lists = λ N sheet run h. lists_none old }
 
-    module _ {i : ℕ} {new : Ring KeptReport} {out : List ℕ} (t : FrameTurn i new out) (l : i < length s.entries) (e : Entry) (at : e ≡ get_or s.entries i e)
-        (a : Result Verdict Told) (look : Looks lawful passes s i a) (next : Ring KeptReport) (more : List ℕ)
-        (adds : Adds (looked number e.name a) new next) (writes : more ≡ out ++ report_lines (looked number e.name a)) where
+    module _ {i : ℕ} {new : Listing} (t : FrameTurn i new) (l : i < length s.entries) (e : Entry) (at : e ≡ get_or s.entries i e)
+        (a : Result Verdict Told) (look : Looks lawful passes s i a) (next : Listing) (adds : Lists (looked number e.name a) new next) where
       module _ (N : ℕ) (sheet : List (Signature T)) (run : List (List R)) (h : Following lawful passes N sheet run s) where
         abbrev g : Signature T
         g = signature_said s.tests e
@@ -62,26 +60,17 @@ module _ {T R : Type 0} (lawful : R → Bool) (passes : T → R → Bool) where
             ∙ frame_append N (take i sheet) (g ∷ []) number run
             ∙ ap (λ rs. at_frame passes N (take i sheet) number run ++ rs) (append-nil (reported number g.name (verdict passes N g run)) ∙ sym here)
 
-      pub frame_again : FrameTurn (i + 1) next more
+      pub frame_again : FrameTurn (i + 1) next
       frame_again =
           record {
-            added = λ N sheet run h.
-                subst (λ (rs : List Report). Adds rs old next) (sym (one_more N sheet run h)) (adds_more (at_frame passes N (take i sheet) number run) (looked number e.name a) old new next (t.added N sheet run h) adds);
-            wrote = λ N sheet run h.
-                let rs = at_frame passes N (take i sheet) number run in
-                writes
-                ∙ ap (λ xs. xs ++ report_lines (looked number e.name a)) (t.wrote N sheet run h)
-                ∙ append_assoc before (report_lines rs) (report_lines (looked number e.name a))
-                ∙ ap (λ xs. before ++ xs) (sym (lines_append rs (looked number e.name a)) ∙ ap report_lines (sym (one_more N sheet run h)));
+            lists = λ N sheet run h.
+                subst (λ (rs : List Report). Lists rs old next) (sym (one_more N sheet run h)) (lists_more (at_frame passes N (take i sheet) number run) (looked number e.name a) old new next (t.lists N sheet run h) adds);
           }
 
-    module _ {i : ℕ} {new : Ring KeptReport} {out : List ℕ} (t : FrameTurn i new out) (l : length s.entries ≤ i)
+    module _ {i : ℕ} {new : Listing} (t : FrameTurn i new) (l : length s.entries ≤ i)
         (N : ℕ) (sheet : List (Signature T)) (run : List (List R)) (h : Following lawful passes N sheet run s) where
       all : take i sheet ≡ sheet
       all = take_all i sheet (omega (arith, l, length-map s.entries (signature_said s.tests), ap length h.sheet_is))
 
-      pub frame_end : Adds (at_frame passes N sheet number run) old new × (out ≡ before ++ report_lines (at_frame passes N sheet number run))
-      frame_end = (
-        subst (λ (ss : List (Signature T)). Adds (at_frame passes N ss number run) old new) all (t.added N sheet run h),
-        t.wrote N sheet run h ∙ ap (λ ss. before ++ report_lines (at_frame passes N ss number run)) all,
-      )
+      pub frame_end : Lists (at_frame passes N sheet number run) old new
+      frame_end = subst (λ (ss : List (Signature T)). Lists (at_frame passes N ss number run) old new) all (t.lists N sheet run h)

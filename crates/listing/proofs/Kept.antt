@@ -1,10 +1,12 @@
 -- The latest reports in a ring, and the lines of reports: some, and then more. Assumes nothing.
 use Rattle.std.proofs.Common.{◌≡◌, ℕ, zero, suc, ◌≤◌, List, [], ◌∷◌, ◌++◌, map, reverse, length, take, drop, sym, refl, ap, ◌∙◌, arith}
-use Rattle.std.proofs.lemmas.List.{append_assoc, reverse-append, length-map, length-take, take_all, take-take, take-map}
+use Rattle.std.proofs.lemmas.List.{append_assoc, append-nil, reverse-append, length-map, length-take, take_all, take-take, take-map}
 use Rattle.lines.specs.Lines.{Report, report_line, report_lines}
 use Rattle.ring.specs.declared.Ring.{Ring}
-use Rattle.ring.specs.Rings.{holds, Good}
+use Rattle.ring.specs.Rings.{holds}
 use Rattle.listing.specs.declared.report.Report.{Report as KeptReport}
+use Rattle.listing.specs.declared.reporting.Listing.{Listing}
+use Rattle.listing.specs.Listed.{Lists}
 use Rattle.listing.specs.Kept.{report_of, reports_in, Adds}
 
 pub lines_append : (rs qs : List Report) → report_lines (rs ++ qs) ≡ report_lines rs ++ report_lines qs
@@ -17,29 +19,39 @@ take_behind m n [] ys l = take-take m n ys l
 take_behind zero n (x ∷ xs) ys l = refl
 take_behind (suc m) n (x ∷ xs) ys l = ap (λ zs. x ∷ zs) (take_behind m n xs ys (omega arith))
 
-few : (r : Ring KeptReport) → Good r → length (reports_in r) ≤ r.capacity
-few r good =
+few : (r : Ring KeptReport) → length (reports_in r) ≤ r.capacity
+few r =
     let all = reverse (take r.next r.slots.now) ++ reverse (drop r.next (take r.capacity r.slots.now)) in
-    omega (arith, length-map (holds r) report_of, length-take r.count all, good.held)
+    omega (arith, length-map (holds r) report_of, length-take r.count all, r.sound.held)
 
 pub adds_none : (r : Ring KeptReport) → Adds [] r r
-adds_none r = record { good = λ g. g; capacity = refl; holds_are = λ g. sym (take_all r.capacity (reports_in r) (few r g)) }
+adds_none r = record { capacity = refl; holds_are = sym (take_all r.capacity (reports_in r) (few r)) }
 
-pub adds_one : (item : KeptReport) (old new : Ring KeptReport) → (Good old → Good new) → new.capacity ≡ old.capacity → (Good old → holds new ≡ take old.capacity (item ∷ holds old)) → Adds (report_of item ∷ []) old new
-adds_one item old new good same keeps =
-    record { good = good; capacity = same; holds_are = λ g. ap (map report_of) (keeps g) ∙ sym (take-map report_of old.capacity (item ∷ holds old)) }
+pub adds_one : (item : KeptReport) (old new : Ring KeptReport) → new.capacity ≡ old.capacity → (holds new ≡ take old.capacity (item ∷ holds old)) → Adds (report_of item ∷ []) old new
+adds_one item old new same keeps =
+    record { capacity = same; holds_are = ap (map report_of) keeps ∙ sym (take-map report_of old.capacity (item ∷ holds old)) }
 
 pub adds_more : (rs qs : List Report) (a b c : Ring KeptReport) → Adds rs a b → Adds qs b c → Adds (rs ++ qs) a c
 adds_more rs qs a b c one two =
     record {
-      good = λ g. two.good (one.good g);
       capacity = two.capacity ∙ one.capacity;
-      holds_are = λ g.
+      holds_are =
           let n = a.capacity in
-          two.holds_are (one.good g)
+          two.holds_are
           ∙ ap (λ m. take m (reverse qs ++ reports_in b)) one.capacity
-          ∙ ap (λ xs. take n (reverse qs ++ xs)) (one.holds_are g)
+          ∙ ap (λ xs. take n (reverse qs ++ xs)) one.holds_are
           ∙ take_behind n n (reverse qs) (reverse rs ++ reports_in a) (omega arith)
           ∙ ap (take n) (sym (append_assoc (reverse qs) (reverse rs) (reports_in a)))
           ∙ ap (λ xs. take n (xs ++ reports_in a)) (sym (reverse-append rs qs));
+    }
+
+-- reports that a listing gains: none, and some and then more
+pub lists_none : (l : Listing) → Lists [] l l
+lists_none l = record { wrote = sym (append-nil l.lines.items); added = adds_none l.latest }
+
+pub lists_more : (rs qs : List Report) (a b c : Listing) → Lists rs a b → Lists qs b c → Lists (rs ++ qs) a c
+lists_more rs qs a b c one two =
+    record {
+      wrote = two.wrote ∙ ap (λ xs. xs ++ report_lines qs) one.wrote ∙ append_assoc a.lines.items (report_lines rs) (report_lines qs) ∙ ap (λ xs. a.lines.items ++ xs) (sym (lines_append rs qs));
+      added = adds_more rs qs a.latest b.latest c.latest one.added two.added;
     }

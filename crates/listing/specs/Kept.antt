@@ -3,7 +3,7 @@ use Rattle.std.specs.Prelude.{◌≡◌, ℕ, List, [], ◌++◌, map, reverse, 
 use Rattle.lines.specs.Lines.{Report}
 use Rattle.matching.specs.Meaning.{heads_of}
 use Rattle.ring.specs.declared.Ring.{Ring}
-use Rattle.ring.specs.Rings.{holds, Good}
+use Rattle.ring.specs.Rings.{holds}
 use Rattle.runs.specs.Verdicts.{Verdict}
 use Rattle.station.specs.Refusals.{Told}
 use Rattle.listing.specs.declared.report.Report.{Report as KeptReport}
@@ -24,6 +24,5 @@ looked number name (Err e) = []
 
 -- these reports, in order, were added to the ring
 pub record Adds (rs : List Report) (old new : Ring KeptReport) : Type 0 where
-  pub good : Good old → Good new
   pub capacity : new.capacity ≡ old.capacity
-  pub holds_are : Good old → reports_in new ≡ take old.capacity (reverse rs ++ reports_in old)
+  pub holds_are : reports_in new ≡ take old.capacity (reverse rs ++ reports_in old)

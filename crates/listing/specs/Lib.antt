@@ -1,5 +1,6 @@
 pub mod Events
 pub mod Reports
 pub mod Kept
+pub mod Listed
 pub mod Scanning
 pub mod Listing

@@ -1,12 +1,12 @@
 // The reports at a frame.
-ghost use Rattle.std.specs.Prelude.{◌≡◌, ℕ, List, ◌++◌, OnOk};
-ghost use Rattle.lines.specs.Lines.{report_lines};
+ghost use Rattle.std.specs.Prelude.{◌≡◌, ℕ, List, [], ◌∷◌, OnOk, option_map, option_to_list};
 ghost use Rattle.sheetfile.specs.Sheets.{Signature};
 ghost use Rattle.station.specs.Answers.{in_figures, verdict_of};
 ghost use Rattle.station.specs.Following.{Following};
 ghost use Rattle.station.specs.Snap.{snap};
 ghost use Rattle.listing.specs.Reports.{at_frame};
-ghost use Rattle.listing.specs.Kept.{looked, Adds};
+ghost use Rattle.listing.specs.Kept.{looked, report_of};
+ghost use Rattle.listing.specs.Listed.{Lists};
 
 use crate::report::Report;
 use kinds::kind::Kind;
@@ -17,44 +17,64 @@ use station::station::Station;
 use station::verdict::Verdict;
 use std::alloc::AllocError;
 
-// Adds the report of a look that says seen: its line to the output, and the report to the latest ones.
-fn put_report(
-    look: Result<Verdict, Refusal>,
-    frame: u32,
-    name: u16,
-    latest: &mut Ring<'_, Report>,
-    out: &mut Vec<u8>,
-) -> Result<(), AllocError>
-    ensures { OnOk result ((out.new.items ≡ out.old.items ++ report_lines (looked frame name (in_figures verdict_of look))) × Adds (looked frame name (in_figures verdict_of look)) latest.old latest.new) }
+// The listing so far: its lines, and the latest of its reports.
+#[derive(Drop)]
+pub(crate) struct Listing<'a> {
+    lines: Vec<u8>,
+    latest: Ring<'a, Report>,
+}
+
+// What a look at the signature of this name reports: seen signatures alone.
+fn reported(look: Result<Verdict, Refusal>, frame: u32, name: u16) -> Option<Report>
+    ensures { option_to_list (option_map report_of result) ≡ looked frame name (in_figures verdict_of look) }
 {
-    let Ok(verdict) = look else {
-        return Ok(());
-    };
-    match verdict {
-        Verdict::Seen(placing) => {
-            push_report(out, frame, name, placing.heads())?;
-            latest.push(Report {
-                frame,
-                name,
-                placing,
-            });
-            Ok(())
-        }
-        Verdict::Young | Verdict::Short(_) => Ok(()),
+    match look {
+        Ok(Verdict::Seen(placing)) => Some(Report {
+            frame,
+            name,
+            placing,
+        }),
+        Ok(Verdict::Young | Verdict::Short(_)) | Err(_) => None,
     }
 }
 
-// Adds the reports at a frame: each seen signature, in sheet order.
-pub(crate) fn put_reports<K: Kind>(
-    station: &Station<'_, '_, '_, K>,
-    frame: u32,
-    latest: &mut Ring<'_, Report>,
-    out: &mut Vec<u8>,
-) -> Result<(), AllocError>
-    ensures { OnOk result ((N : ℕ) (sheet : List (Signature K.Test)) (run : List (List K.Reading)) → Following K.facts.readings.proper K.facts.passes N sheet run (snap station.now) → Adds (at_frame K.facts.passes N sheet frame run) latest.old latest.new × (out.new.items ≡ out.old.items ++ report_lines (at_frame K.facts.passes N sheet frame run))) }
-{
-    for (position, entry) in station.entries().iter().enumerate() {
-        put_report(station.look(position), frame, entry.name, latest, out)?;
+impl Listing<'_> {
+    // Adds a report.
+    fn put(&mut self, report: Report) -> Result<(), AllocError>
+        ensures { OnOk result (Lists (report_of report ∷ []) self.old self.new) }
+    {
+        let heads = report.placing.heads();
+        push_report(&mut self.lines, report.frame, report.name, heads)?;
+        self.latest.push(report);
+        Ok(())
     }
-    Ok(())
+
+    // Adds the report of a look, if there is one.
+    fn put_look(
+        &mut self,
+        look: Result<Verdict, Refusal>,
+        frame: u32,
+        name: u16,
+    ) -> Result<(), AllocError>
+        ensures { OnOk result (Lists (looked frame name (in_figures verdict_of look)) self.old self.new) }
+    {
+        match reported(look, frame, name) {
+            Some(report) => self.put(report),
+            None => Ok(()),
+        }
+    }
+
+    // Adds the reports at a frame: each seen signature, in sheet order.
+    pub(crate) fn put_frame<K: Kind>(
+        &mut self,
+        station: &Station<'_, '_, '_, K>,
+        frame: u32,
+    ) -> Result<(), AllocError>
+        ensures { OnOk result ((N : ℕ) (sheet : List (Signature K.Test)) (run : List (List K.Reading)) → Following K.facts.readings.proper K.facts.passes N sheet run (snap station.now) → Lists (at_frame K.facts.passes N sheet frame run) self.old self.new) }
+    {
+        for (position, entry) in station.entries().iter().enumerate() {
+            self.put_look(station.look(position), frame, entry.name)?;
+        }
+        Ok(())
+    }
 }
