@@ -1,5 +1,4 @@
 pub mod Histories
 pub mod Bits
-pub mod Lowest
 pub mod Trying
 pub mod Telling

@@ -1,5 +1,5 @@
 -- What a row tells: before any reading, after one more, and of the whole match.
-use Rattle.std.proofs.Common.{◌≡◌, ℕ, zero, suc, ◌+◌, ◌-◌, ◌<◌, ◌≤◌, Bool, false, ◌&&◌, List, [], ◌∷◌, length, get_or, take, sym, ap, ◌∙◌, add-one, arith}
+use Rattle.std.proofs.Common.{◌≡◌, ℕ, zero, suc, ◌+◌, ◌-◌, ◌<◌, ◌≤◌, Bool, false, ◌&&◌, List, [], ◌∷◌, length, get_or, take, Some, sym, ap, ◌∙◌, add-one, arith}
 use mathlib.Core.Bool.{and-false}
 use Rattle.std.specs.List.{slice_get}
 use Rattle.std.proofs.lemmas.List.{length-take, take_more, take_all}
@@ -22,6 +22,9 @@ module _ {T R : Type 0} (passes : T → R → Bool) where
   -- the test at a place, against the reading
   abbrev pub tried : List T → R → ℕ → Bool
   tried tests r i = is_some_and (λ t. passes t r) (slice_get tests i)
+
+  pub tried_at : (tests : List T) (r : R) (i : ℕ) (t : T) → i < length tests → t ≡ get_or tests i t → tried tests r i ≡ passes t r
+  tried_at tests r i t h is = ap (is_some_and (λ t. passes t r)) (slice_get-get_or tests i t h ∙ ap Some (sym is))
 
   pub tried_past : (tests : List T) (r : R) (i : ℕ) → length tests ≤ i → tried tests r i ≡ false
   tried_past tests r i h = ap (is_some_and (λ t. passes t r)) (slice_get_past tests i h)

@@ -1,53 +1,73 @@
--- Trying places: the lowest place left is tried and left behind.
-use Rattle.std.proofs.Common.{◌≡◌, ℕ, zero, suc, ◌-◌, ◌*◌, ◌%◌, ◌^◌, ◌<◌, ◌≤◌, min, Bool, true, false, ◌&&◌, ◌||◌, ◌≢◌, sym, ap, ◌∙◌, inl, inr, arith, pow_pos, pow_mono}
+-- Trying places: the least place left is tried and left behind.
+use Rattle.std.proofs.Common.{◌≡◌, ℕ, zero, suc, ◌-◌, ◌*◌, ◌%◌, ◌^◌, ◌<◌, ◌≤◌, min, Bool, true, false, ◌&&◌, ◌||◌, eqb, ◌≢◌, sym, ap, ◌∙◌, inl, inr, true≢false, lt_of_lt_of_le, arith, pow_pos, pow_mono}
 use mathlib.Core.Bool.{and-false, or-false, or-true}
 use lib.Bits.{bit_and, bit_or, and_le_r}
-use lib.Count.{count_trailing_zeros}
 use Rattle.std.proofs.lemmas.Nat.{one_shl, and_mask}
 use Rattle.std.proofs.lemmas.Bool.{cases_lt, cases_eq}
+use Rattle.members.specs.Takes.{TakesLeast}
 use Rattle.rows.specs.Bits.{bit}
-use Rattle.rows.proofs.Bits.{bit_of_and, bit_of_or, bit_one_same, bit_one_other, bit_wrap, bit_shl}
-use Rattle.rows.proofs.Lowest.{lowest_set, before_other, lowest_below}
+use Rattle.rows.proofs.Bits.{bit_of_or, bit_one_same, bit_one_other, bit_wrap, bit_shl, bit_past}
 
 -- what passed, and what is still to try, at a place
 abbrev pub kept : (ℕ → Bool) → ℕ → ℕ → ℕ → Bool
 kept pass next left k = bit k next || (bit k left && pass k)
 
--- another place than the lowest stays to try, or not
-others : (left k : ℕ) → 0 < left → left < 2 ^ 64 → k ≢ count_trailing_zeros 64 left → bit k (bit_and left (left - 1)) ≡ bit k left
-others left k p h ne = bit_of_and k left (left - 1) ∙ before_other 64 left k p h ne
-
--- the test at the lowest place passes
-pub passed : (pass : ℕ → Bool) (next left : ℕ) → 0 < left → left < 2 ^ 64 → pass (count_trailing_zeros 64 left) ≡ true
-    → (k : ℕ) → kept pass (bit_or next ((1 * 2 ^ count_trailing_zeros 64 left) % 2 ^ 64)) (bit_and left (left - 1)) k ≡ kept pass next left k
-passed pass next left p h yes' k =
-    let i = count_trailing_zeros 64 left in
-    let small : i < 64 = lowest_below 64 left 64 p h h in
-    let fresh : bit k (bit_or next ((1 * 2 ^ i) % 2 ^ 64)) ≡ (bit k next || bit k (2 ^ i)) = bit_of_or k next _ ∙ ap (λ v. bit k next || bit k v) (one_shl i 64 small) in
-    elim (cases_eq k i) [
-      | inl e ↦
-          let on : bit k (2 ^ i) ≡ true = ap (λ v. bit v (2 ^ i)) e ∙ bit_one_same i in
-          let left_on : bit k left ≡ true = ap (λ v. bit v left) e ∙ lowest_set 64 left p h in
-          let pass_on : pass k ≡ true = ap pass e ∙ yes' in
-          let a : bit k (bit_or next ((1 * 2 ^ i) % 2 ^ 64)) ≡ true = fresh ∙ ap (λ v. bit k next || v) on ∙ or-true _ in
-          let b : kept pass next left k ≡ true = ap (λ v. bit k next || (v && pass k)) left_on ∙ ap (λ v. bit k next || v) pass_on ∙ or-true _ in
-          ap (λ v. v || (bit k (bit_and left (left - 1)) && pass k)) a ∙ sym b
-      | inr ne ↦
-          let a : bit k (bit_or next ((1 * 2 ^ i) % 2 ^ 64)) ≡ bit k next = fresh ∙ ap (λ v. bit k next || v) (bit_one_other k i ne) ∙ or-false _ in
-          ap (λ v. v || (bit k (bit_and left (left - 1)) && pass k)) a ∙ ap (λ v. bit k next || (v && pass k)) (others left k p h ne)
+-- a place where a bit is set lies below every bound of the number
+pub set_below : (i n m : ℕ) → bit i n ≡ true → n < 2 ^ m → i < m
+set_below i n m on small =
+    elim (cases_lt i m) [
+      | inl l ↦ l
+      | inr l ↦ let z : true ≡ false = sym on ∙ bit_past i n (lt_of_lt_of_le small (pow_mono l)) in absurd (true≢false z)
     ]
 
--- it does not
-pub missed : (pass : ℕ → Bool) (next left : ℕ) → 0 < left → left < 2 ^ 64 → pass (count_trailing_zeros 64 left) ≡ false
-    → (k : ℕ) → kept pass next (bit_and left (left - 1)) k ≡ kept pass next left k
-missed pass next left p h no' k =
-    elim (cases_eq k (count_trailing_zeros 64 left)) [
-      | inl e ↦
-          let off : pass k ≡ false = ap pass e ∙ no' in
-          let none : (b : Bool) → (b && pass k) ≡ false = λ b. ap (λ v. b && v) off ∙ and-false b in
-          ap (λ v. bit k next || v) (none (bit k (bit_and left (left - 1))) ∙ sym (none (bit k left)))
-      | inr ne ↦ ap (λ v. bit k next || (v && pass k)) (others left k p h ne)
-    ]
+module _ (left i rest : ℕ) (t : TakesLeast left i rest) where
+  pub least_on : bit i left ≡ true
+  unfolding bit
+  least_on = ap (λ n. eqb n 1) t.member
+
+  least_gone : bit i rest ≡ false
+  unfolding bit
+  least_gone = ap (λ n. eqb n 1) t.gone
+
+  others : (k : ℕ) → k ≢ i → bit k rest ≡ bit k left
+  unfolding bit
+  others k ne = ap (λ n. eqb n 1) (t.others k ne)
+
+  -- what is left lies within what was left
+  pub left_within : (k : ℕ) → bit k rest ≡ true → bit k left ≡ true
+  left_within k on =
+      elim (cases_eq k i) [
+        | inl e ↦ ap (λ v. bit v left) e ∙ least_on
+        | inr ne ↦ sym (others k ne) ∙ on
+      ]
+
+  -- the test at the least place passes
+  pub passed : (pass : ℕ → Bool) (next : ℕ) → pass i ≡ true → (k : ℕ) → kept pass (bit_or next ((1 * 2 ^ i) % 2 ^ 64)) rest k ≡ kept pass next left k
+  passed pass next yes' k =
+      let fresh : bit k (bit_or next ((1 * 2 ^ i) % 2 ^ 64)) ≡ (bit k next || bit k (2 ^ i)) = bit_of_or k next _ ∙ ap (λ v. bit k next || bit k v) (one_shl i 64 t.low) in
+      elim (cases_eq k i) [
+        | inl e ↦
+            let on : bit k (2 ^ i) ≡ true = ap (λ v. bit v (2 ^ i)) e ∙ bit_one_same i in
+            let left_on : bit k left ≡ true = ap (λ v. bit v left) e ∙ least_on in
+            let pass_on : pass k ≡ true = ap pass e ∙ yes' in
+            let a : bit k (bit_or next ((1 * 2 ^ i) % 2 ^ 64)) ≡ true = fresh ∙ ap (λ v. bit k next || v) on ∙ or-true _ in
+            let b : kept pass next left k ≡ true = ap (λ v. bit k next || (v && pass k)) left_on ∙ ap (λ v. bit k next || v) pass_on ∙ or-true _ in
+            ap (λ v. v || (bit k rest && pass k)) a ∙ sym b
+        | inr ne ↦
+            let a : bit k (bit_or next ((1 * 2 ^ i) % 2 ^ 64)) ≡ bit k next = fresh ∙ ap (λ v. bit k next || v) (bit_one_other k i ne) ∙ or-false _ in
+            ap (λ v. v || (bit k rest && pass k)) a ∙ ap (λ v. bit k next || (v && pass k)) (others k ne)
+      ]
+
+  -- it does not
+  pub missed : (pass : ℕ → Bool) (next : ℕ) → pass i ≡ false → (k : ℕ) → kept pass next rest k ≡ kept pass next left k
+  missed pass next no' k =
+      elim (cases_eq k i) [
+        | inl e ↦
+            let off : pass k ≡ false = ap pass e ∙ no' in
+            let none : (b : Bool) → (b && pass k) ≡ false = λ b. ap (λ v. b && v) off ∙ and-false b in
+            ap (λ v. bit k next || v) (none (bit k rest) ∙ sym (none (bit k left)))
+        | inr ne ↦ ap (λ v. bit k next || (v && pass k)) (others k ne)
+      ]
 
 -- Bit i of a word after a step: test i passes, and a match of i tests stood before, as the empty one always does.
 abbrev pub stepped : (ℕ → Bool) → ℕ → ℕ → Bool

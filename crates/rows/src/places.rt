@@ -5,6 +5,7 @@ ghost use Rattle.rows.specs.Bits.{bit};
 ghost use Rattle.rows.specs.Matches.{is_some_and};
 
 use kinds::kind::Kind;
+use members::Members;
 
 // the bits of a word
 pub(crate) const PLACES: usize = 64;
@@ -30,14 +31,11 @@ pub(crate) fn passing_places<K: Kind>(
     requires { begun < 2 ^ length tests.now }
     ensures { (i : ℕ) → bit i result ≡ (bit i begun && is_some_and (λ t. K.facts.passes t reading.now) (slice_get tests.now i)) }
 {
-    let mut left = begun;
     let mut next: u64 = 0;
-    while left != 0 {
-        let i = left.trailing_zeros() as usize;
+    for i in Members::of(begun) {
         if kind.passes(&tests[i], reading) {
             next |= 1 << i;
         }
-        left &= left - 1;
     }
     next
 }

@@ -1,58 +1,52 @@
-use Rattle.std.proofs.Common.{◌≡◌, ◌-◌, ◌^◌, ◌<◌, ◌&&◌, ◌||◌, length, Some, sym, ap, ◌∙◌, arith}
+use Rattle.std.proofs.Common.{◌≡◌, ℕ, ◌^◌, ◌<◌, true, ◌&&◌, ◌||◌, sym, ap, ◌∙◌, arith}
 use mathlib.Core.Bool.{or-false}
-use lib.Bits.{bit_and, and_le_l}
-use lib.Count.{count_trailing_zeros}
-use Rattle.std.proofs.lemmas.Option.{slice_get-get_or}
+use Rattle.members.specs.Takes.{TakesLeast}
 use Rattle.rows.specs.Bits.{bit}
-use Rattle.rows.specs.Matches.{is_some_and}
 use Rattle.rows.proofs.Bits.{bit_none}
-use Rattle.rows.proofs.Lowest.{lowest_below}
-use Rattle.rows.proofs.Trying.{kept, passed, missed}
-use Rattle.rows.proofs.Telling.{tried}
+use Rattle.rows.proofs.Trying.{kept, set_below, least_on, left_within, passed, missed}
+use Rattle.rows.proofs.Telling.{tried, tried_at}
 use Rattle.rows.proofs.places.passing_places.Goals as goal
-use Rattle.rows.proofs.places.passing_places.Goals.{then-passes, else-passes}
 
-pub loop-left-init : goal.loop-left-init
-loop-left-init g c = (
-  omega arith,
-  λ k. ap (λ b. b || (bit k c.args.begun && tried g.K.Kind.facts.passes c.args.tests.now c.args.reading.now k)) (bit_none k),
-)
+pub loop-i-init : goal.loop-i-init
+loop-i-init g c =
+    let all : c.into_iter-i-iterator.result.left ≡ c.args.begun = search in
+    let pass = tried g.K.Kind.facts.passes c.args.tests.now c.args.reading.now in (
+      λ k on. sym (ap (bit k) all) ∙ on,
+      λ k. ap (λ b. b || (bit k c.into_iter-i-iterator.result.left && pass k)) (bit_none k) ∙ ap (λ n. bit k n && pass k) all,
+    )
 
--- what is left to try is a word, and lies within the tests
+-- a place that is left lies within the tests
+within : (left i rest begun : ℕ) (n : ℕ) → TakesLeast left i rest → ((k : ℕ) → bit k left ≡ true → bit k begun ≡ true) → begun < 2 ^ n → i < n
+within left i rest begun n t held small = set_below i begun n (held i (least_on left i rest t)) small
+
 pub bounds-tests-i : goal.bounds-tests-i
-bounds-tests-i g c = lowest_below 64 c.loop-left.left _ (omega arith) (omega arith) (omega arith)
+bounds-tests-i g c = within _ _ _ c.args.begun _ c.in-Some.ensures.steps c.loop-i.invariant.0 c.requires
 
 pub offset_bounds-tests-i : goal.offset_bounds-tests-i
-offset_bounds-tests-i g c = omega (arith, lowest_below 64 c.loop-left.left (length c.args.tests.now) (omega arith) (omega arith) (omega arith))
+offset_bounds-tests-i g c = let here = within _ _ _ c.args.begun _ c.in-Some.ensures.steps c.loop-i.invariant.0 c.requires in omega (arith, here)
 
-pub overflow_shl-next : goal.overflow_shl-next
-overflow_shl-next g c = lowest_below 64 c.loop-left.left 64 (omega arith) (omega arith) (omega arith)
+pub loop-i-preserved-then-passes : goal.loop-i-preserved-then-passes
+loop-i-preserved-then-passes g c =
+    let passes = g.K.Kind.facts.passes in
+    let t = c.in-Some.ensures.steps in
+    let here = within _ _ _ c.args.begun _ t c.loop-i.invariant.0 c.requires in
+    let at = tried_at passes c.args.tests.now c.args.reading.now c.in-Some.i c.index-tests-i.result here c.index-tests-i.is in (
+      λ k on. c.loop-i.invariant.0 k (left_within _ _ _ t k on),
+      λ k. passed _ _ _ t (tried passes c.args.tests.now c.args.reading.now) c.loop-i.next (at ∙ sym c.if-passes.ensures) k ∙ c.loop-i.invariant.1 k,
+    )
 
-pub loop-left-preserved : goal.loop-left-preserved
-loop-left-preserved g c =
-    let pass = tried g.K.Kind.facts.passes c.args.tests.now c.args.reading.now in
-    let left = c.loop-left.left in
-    let some : 0 < left = omega arith in
-    let word : left < 2 ^ 64 = omega arith in
-    let within : count_trailing_zeros 64 left < length c.args.tests.now = lowest_below 64 left _ some word (omega arith) in
-    let at : pass (count_trailing_zeros 64 left) ≡ c.passes.result =
-    ap (is_some_and (λ t. g.K.Kind.facts.passes t c.args.reading.now))
-    (slice_get-get_or c.args.tests.now (count_trailing_zeros 64 left) c.index-tests-i.result within ∙ ap Some (sym c.index-tests-i.is))
-    ∙ sym c.passes.ensures in (
-      omega (arith, and_le_l left (left - 1)),
-      λ k. elim c.if-passes.branch [
-        | then-passes w ↦
-            ap (λ n. kept pass n (bit_and left (left - 1)) k) w.next-is
-            ∙ passed pass c.loop-left.next left some word (at ∙ w.if-passes.true) k ∙ c.loop-left.invariant.1 k
-        | else-passes w ↦
-            ap (λ n. kept pass n (bit_and left (left - 1)) k) w.next-is
-            ∙ missed pass c.loop-left.next left some word (at ∙ w.if-passes.false) k ∙ c.loop-left.invariant.1 k
-      ],
+pub loop-i-preserved : goal.loop-i-preserved
+loop-i-preserved g c =
+    let passes = g.K.Kind.facts.passes in
+    let t = c.in-Some.ensures.steps in
+    let here = within _ _ _ c.args.begun _ t c.loop-i.invariant.0 c.requires in
+    let at = tried_at passes c.args.tests.now c.args.reading.now c.in-Some.i c.index-tests-i.result here c.index-tests-i.is in (
+      λ k on. c.loop-i.invariant.0 k (left_within _ _ _ t k on),
+      λ k. missed _ _ _ t (tried passes c.args.tests.now c.args.reading.now) c.loop-i.next (at ∙ sym c.if-passes.ensures) k ∙ c.loop-i.invariant.1 k,
     )
 
 pub returns : goal.returns
 returns g c i =
     let pass = tried g.K.Kind.facts.passes c.args.tests.now c.args.reading.now in
-    sym (ap (λ n. kept pass c.loop-left.next n i) c.loop-left-test.false
-    ∙ ap (λ b. bit i c.loop-left.next || (b && pass i)) (bit_none i) ∙ or-false _)
-    ∙ c.loop-left.invariant.1 i
+    let none : c.loop-i.i-iterator.left ≡ 0 = c.in-None.ensures.steps in
+    sym (ap (λ n. kept pass c.loop-i.next n i) none ∙ ap (λ b. bit i c.loop-i.next || (b && pass i)) (bit_none i) ∙ or-false _) ∙ c.loop-i.invariant.1 i
