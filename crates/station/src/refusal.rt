@@ -23,7 +23,7 @@ pub enum Refusal {
 }
 
 impl Refusal {
-    // The number on the fault card.
+    // The number on the fault card. A match stays: a case that holds a head can have no number in the enum itself.
     pub fn number(self) -> u8
         ensures { result ≡ number self }
     {
