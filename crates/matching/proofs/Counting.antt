@@ -1,5 +1,6 @@
 -- Laws of counting. Sums of counts go by `count-sum`, and maps between what is counted by `count-into`.
 use Rattle.std.proofs.Common.{◌≡◌, ℕ, zero, suc, ◌+◌, ◌<◌, ◌≤◌, Bool, true, false, cond, not, ◌&&◌, ◌||◌, eqb, sym, refl, ap, ◌∙◌, inl, inr, add-one, arith}
+use mathlib.Core.Bool.{or-false}
 use Rattle.std.proofs.lemmas.Bool.Decides.{nat_tests}
 use Rattle.std.proofs.lemmas.Bool.{cases_lt, eqb-true, eq-eqb, ne_eqb, cases_Bool, true≢false, and_from, or_cases, or_left, or_right}
 use Rattle.matching.specs.Count.{count, any}
@@ -150,4 +151,12 @@ count_cut p N (suc L) l e =
     elim (cases_lt L N) [
       | inl m ↦ let z : suc L ≡ N = omega arith in ap (count p) z
       | inr m ↦ let b : one (p L) ≡ 0 = ap one (e L m) in omega (arith, count_suc p L, count_cut p N L m e, b)
+    ]
+
+pub any_cut : (p : ℕ → Bool) (N L : ℕ) → N ≤ L → ((h : ℕ) → N ≤ h → p h ≡ false) → any p L ≡ any p N
+any_cut p N zero l e = let z : N ≡ 0 = omega arith in ap (any p) (sym z)
+any_cut p N (suc L) l e =
+    elim (cases_lt L N) [
+      | inl m ↦ let z : suc L ≡ N = omega arith in ap (any p) z
+      | inr m ↦ any_suc p L ∙ ap (λ b. any p L || b) (e L m) ∙ or-false (any p L) ∙ any_cut p N L m e
     ]

@@ -16,3 +16,4 @@ pub mod Renaming
 pub mod Deficiency
 pub mod Cut
 pub mod Outcomes
+pub mod Finding

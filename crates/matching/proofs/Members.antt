@@ -1,45 +1,29 @@
 -- Sets of heads, one head more, and tables of them, one track more. Assumes nothing.
-use Rattle.std.proofs.Common.{◌≡◌, ℕ, zero, suc, ◌+◌, ◌*◌, ◌/◌, ◌%◌, ◌^◌, ◌<◌, Bool, true, false, ◌||◌, eqb, ◌≢◌, List, length, get_or, set, sym, refl, ap, ◌∙◌, subst, inl, inr, pow-suc, arith}
+use Rattle.std.proofs.Common.{◌≡◌, ℕ, zero, suc, ◌+◌, ◌*◌, ◌/◌, ◌%◌, ◌^◌, ◌<◌, Bool, true, false, ◌||◌, eqb, ◌≢◌, List, length, get_or, set, sym, refl, ap, ◌∙◌, subst, ap₂, inl, inr, pow-suc, arith}
 use mathlib.Core.Bool.{or-true, or-false}
-use lib.Bits.{bit_or, or_lt}
-use Rattle.std.proofs.lemmas.Nat.{one_shl, pow_below}
+use Rattle.std.proofs.lemmas.Nat.{pow_below}
 use Rattle.std.proofs.lemmas.List.{get_or-set_same, get_or-set_other}
-use Rattle.std.proofs.lemmas.Bool.{cases_lt}
+use Rattle.std.proofs.lemmas.Bool.{cases_lt, eq-eqb, ne_eqb}
 use Rattle.matching.specs.Sets.{has}
 use Rattle.matching.specs.Members.{Members, Sets}
-use Rattle.matching.proofs.Words.{has_past, has_or}
-
--- one power of two
-has_power : (h : ℕ) → has (2 ^ h) h ≡ true
-has_power zero = refl
-has_power (suc h) = let e : 2 ^ suc h / 2 ≡ 2 ^ h = omega (arith, pow-suc 2 h) in ap (λ n. has n h) e ∙ has_power h
-
-has_power_below : (h k : ℕ) → k < h → has (2 ^ h) k ≡ false
-has_power_below zero k l = absurd (omega arith)
-has_power_below (suc h) zero l = let e : 2 ^ suc h % 2 ≡ 0 = omega (arith, pow-suc 2 h) in ap (λ n. eqb n 1) e
-has_power_below (suc h) (suc k) l = let e : 2 ^ suc h / 2 ≡ 2 ^ h = omega (arith, pow-suc 2 h) in ap (λ n. has n k) e ∙ has_power_below h k (omega arith)
+use Rattle.matching.proofs.Words.{has_past, below_power}
 
 module _ (P : ℕ → Bool → Type 0) where
   pub members_none : Members P 0 0
   members_none = record { within = omega arith; each = λ h l. absurd (omega arith) }
 
-  pub members_yes : (h s : ℕ) → Members P h s → h < 8 → P h true → Members P (h + 1) (bit_or s ((1 * 2 ^ h) % 2 ^ 8))
-  members_yes h s m l passed-it =
-      let is : (1 * 2 ^ h) % 2 ^ 8 ≡ 2 ^ h = one_shl h 8 l in
-      subst (λ (n : ℕ). Members P (h + 1) (bit_or s n)) (sym is)
-      (record {
-        within = or_lt (h + 1) s (2 ^ h) (omega (arith, m.within, pow_below h (h + 1) (omega arith))) (pow_below h (h + 1) (omega arith));
-        each = λ k lk.
-            elim (cases_lt k h) [
-              | inl lt ↦
-                  let same : has s k ≡ has (bit_or s (2 ^ h)) k = sym (has_or s (2 ^ h) k ∙ ap (λ b. has s k || b) (has_power_below h k lt) ∙ or-false (has s k)) in
-                  subst (λ (b : Bool). P k b) same (m.each k lt)
-              | inr ge ↦
-                  let eq : h ≡ k = omega arith in
-                  let same : true ≡ has (bit_or s (2 ^ h)) h = sym (has_or s (2 ^ h) h ∙ ap (λ b. has s h || b) (has_power h) ∙ or-true (has s h)) in
-                  subst (λ (i : ℕ). P i (has (bit_or s (2 ^ h)) i)) eq (subst (λ (b : Bool). P h b) same passed-it)
+  pub members_yes : (h s s' : ℕ) → Members P h s → ((x : ℕ) → has s' x ≡ (has s x || eqb x h)) → P h true → Members P (h + 1) s'
+  members_yes h s s' m e told =
+      record {
+        within = below_power (h + 1) s' (λ x l. e x ∙ ap₂ ◌||◌ (has_past h s x m.within (omega arith)) (ne_eqb x h (λ z. omega arith)));
+        each = λ x l.
+            elim (cases_lt x h) [
+              | inl k ↦ subst (P x) (sym (e x ∙ ap (λ b. has s x || b) (ne_eqb x h (λ z. omega arith)) ∙ or-false (has s x))) (m.each x k)
+              | inr k ↦
+                  let z : x ≡ h = omega arith in
+                  rw z (subst (P h) (sym (e h ∙ ap (λ b. has s h || b) (eq-eqb h h refl) ∙ or-true (has s h))) told)
             ];
-      })
+      }
 
   pub members_no : (h s : ℕ) → Members P h s → P h false → Members P (h + 1) s
   members_no h s m missed-it =

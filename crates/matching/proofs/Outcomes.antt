@@ -1,13 +1,12 @@
 -- What holds of the answer holds of an outcome that says it.
-use Rattle.std.proofs.Common.{◌≡◌, ℕ, ◌^◌, ◌<◌, ◌≤◌, List, length, get_or, take, None, Option, sym, ap, ◌∙◌, subst, ap₂}
+use Rattle.std.proofs.Common.{◌≡◌, ℕ, ◌<◌, List, get_or, None, Option, sym, ap, ◌∙◌, subst}
 use Rattle.std.proofs.lemmas.Bool.{true≢false}
+use Rattle.matching.specs.declared.fits.Fits.{Fits}
 use Rattle.matching.specs.Sets.{has}
-use Rattle.matching.specs.Fitting.{Fitting, Alike}
 use Rattle.matching.specs.Search.{first_placing_of}
 use Rattle.matching.specs.Answer.{Answer, said, answer, Right}
-use Rattle.matching.specs.Renaming.{Renames, Unmoved, SameWord}
-use Rattle.matching.specs.Meaning.{table}
-use Rattle.matching.proofs.Rows.{get_d_take}
+use Rattle.matching.specs.Meaning.{fitting}
+use Rattle.matching.specs.Promises.{answer_for, RightFor, OnlyRight, SameRenamed, Local}
 use Rattle.matching.proofs.Words.{has_none, has_past}
 use Rattle.matching.proofs.Rightness.{none_found, answer_right, answer_only}
 use Rattle.matching.proofs.Local.{answer_local}
@@ -15,34 +14,29 @@ use Rattle.matching.proofs.Renaming.{answer_unmoved}
 use Rattle.matching.proofs.Cut.{answer_cut}
 
 -- A track that fits no head leaves no placing.
-pub idle_none : (rows : List ℕ) (N t : ℕ) → t < length rows → get_or rows t 0 ≡ 0 → first_placing_of (table rows) (length rows) N ≡ None
-idle_none rows N t l e =
-    none_found (table rows) (length rows) N (λ hs p. true≢false (sym (p.fit t l) ∙ ap (λ r. has r (get_or hs t 0)) e ∙ has_none (get_or hs t 0)))
+pub idle_none : (f : Fits) (N t : ℕ) → t < f.tracks → get_or f.rows t 0 ≡ 0 → first_placing_of (fitting f) f.tracks N ≡ None
+idle_none f N t l e =
+    none_found (fitting f) f.tracks N (λ hs p. true≢false (sym (p.fit t l) ∙ ap (λ r. has r (get_or hs t 0)) e ∙ has_none (get_or hs t 0)))
 
-said_answer : (fits : Fitting) (M N : ℕ) (o : Option (List ℕ)) → o ≡ first_placing_of fits M N → said fits M N o ≡ answer fits M N
+-- What is said by a search on eight heads is the answer for the table.
+pub said_for : (f : Fits) (o : Option (List ℕ)) → o ≡ first_placing_of (fitting f) f.tracks 8 → said (fitting f) f.tracks 8 o ≡ answer_for f
 unfolding answer
-said_answer fits M N o e = ap (said fits M N) e
+said_for f o e =
+    ap (said (fitting f) f.tracks 8) e ∙ answer_cut f.heads 8 f.few_heads (fitting f) f.tracks (λ t h _ m. has_past f.heads (get_or f.rows t 0) h (f.within t) m)
 
--- What is said of the rows in use, on eight heads, is the answer for the table.
-pub said_table : (rows used : List ℕ) (M N : ℕ) (o : Option (List ℕ)) → used ≡ take M rows → length used ≡ M → N ≤ 8
-    → ((t : ℕ) → get_or rows t 0 < 2 ^ N) → o ≡ first_placing_of (table used) (length used) 8
-    → said (table used) (length used) 8 o ≡ answer (table rows) M N
-said_table rows used M N o e k l w f =
-    said_answer (table used) (length used) 8 o f
-    ∙ ap₂ (λ v m. answer (table v) m 8) e k
-    ∙ answer_local (table (take M rows)) (table rows) M 8 (λ t h m _. ap (λ r. has r h) (get_d_take rows M t m))
-    ∙ answer_cut N 8 l (table rows) M (λ t h _ m. has_past N (get_or rows t 0) h (w t) m)
-
-pub right_by : (fits : Fitting) (M N : ℕ) (a : Answer) → a ≡ answer fits M N → Right fits M N a
-right_by fits M N a e = subst (λ b. Right fits M N b) (sym e) (answer_right fits M N)
-
-pub only_by : (fits : Fitting) (M N : ℕ) (a : Answer) → a ≡ answer fits M N → (b : Answer) → Right fits M N b → b ≡ a
-only_by fits M N a e b r = answer_only fits M N b r ∙ sym e
-
-pub unmoved_by : (fits : Fitting) (M N : ℕ) (a : Answer) → a ≡ answer fits M N
-    → (fits' : Fitting) (to from : ℕ → ℕ) → Renames M N fits fits' to from → Unmoved M N fits fits' × SameWord a (answer fits' M N)
-unmoved_by fits M N a e fits' to from r =
-    let u = answer_unmoved fits fits' M N to from r in (u.0, subst (λ b. SameWord b (answer fits' M N)) (sym e) u.1)
-
-pub local_by : (fits : Fitting) (M N : ℕ) (a : Answer) → a ≡ answer fits M N → (fits' : Fitting) → Alike M N fits fits' → a ≡ answer fits' M N
-local_by fits M N a e fits' s = e ∙ answer_local fits fits' M N s
+-- All that an outcome promises, of what it says.
+pub promised : (f : Fits) (a : Answer) → a ≡ answer_for f → record {
+  is : a ≡ answer_for f;
+  right : RightFor f a;
+  only : OnlyRight f a;
+  unmoved : SameRenamed f a;
+  local : Local f a;
+}
+promised f a e =
+    record {
+      is = e;
+      right = subst (RightFor f) (sym e) (answer_right (fitting f) f.tracks f.heads);
+      only = λ b r. answer_only (fitting f) f.tracks f.heads b r ∙ sym e;
+      unmoved = subst (SameRenamed f) (sym e) (λ fits' to from r. answer_unmoved (fitting f) fits' f.tracks f.heads to from r);
+      local = λ fits' s. e ∙ answer_local (fitting f) fits' f.tracks f.heads s;
+    }

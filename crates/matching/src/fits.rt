@@ -19,7 +19,7 @@ pub const MOST_HEADS: usize = 8;
 pub struct Fits {
     tracks: usize,
     heads: usize,
-    // for each track the set of the heads that fit it: bit h is set if head h fits
+    // for each track the number of the set of the heads that fit it
     rows: [u8; MOST_TRACKS],
     ghost few_tracks: { tracks ≤ most_tracks },
     ghost few_heads: { heads ≤ most_heads },

@@ -6,11 +6,12 @@
 mod fits;
 mod outcome;
 mod placing;
+mod set;
 mod short;
 mod theorems;
 
 pub use fits::{Fits, MOST_HEADS, MOST_TRACKS, Witness};
 pub use outcome::Outcome;
 pub use placing::Placing;
-pub use short::TrackSet;
+pub use set::TrackSet;
 pub use theorems::theorems_hold;

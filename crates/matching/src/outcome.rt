@@ -4,8 +4,8 @@ ghost use Rattle.matching.specs.Meaning.{answer_of};
 ghost use Rattle.matching.specs.Promises.{answer_for, RightFor, OnlyRight, SameRenamed, Local};
 
 use crate::fits::Fits;
-use crate::placing::{Placing, first_placing};
-use crate::short::{TrackSet, least_short};
+use crate::placing::Placing;
+use crate::set::TrackSet;
 
 /// Whether the tracks can stand on different heads.
 #[derive(Clone, Copy, Debug, PartialEq, Eq)]
@@ -29,10 +29,9 @@ impl Fits {
         ensures unmoved { SameRenamed self.now (answer_of result) }
         ensures local { Local self.now (answer_of result) }
     {
-        let rows = self.rows();
-        match first_placing(rows) {
+        match self.first_placing() {
             Some(placing) => Outcome::Seen(placing),
-            None => Outcome::Short(least_short(rows)),
+            None => Outcome::Short(self.least_short()),
         }
     }
 }

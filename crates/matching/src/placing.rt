@@ -6,7 +6,6 @@ mod methods;
 mod search;
 
 use crate::fits::MOST_TRACKS;
-pub(crate) use search::first_placing;
 
 /// A head for each of the tracks 0 to M - 1.
 #[derive(Clone, Copy, Debug, PartialEq, Eq)]

@@ -1,31 +1,12 @@
-ghost use Rattle.std.specs.Prelude.{◌≡◌, length, take, MatchOption};
-ghost use Rattle.matching.specs.Meaning.{fitting, Within, Made};
+ghost use Rattle.std.specs.Prelude.{◌≡◌, ◌<◌, ℕ, slice_index};
+ghost use Rattle.std.specs.Bool.{OnTrue};
+ghost use Rattle.matching.specs.Limits.{most_tracks};
+ghost use Rattle.matching.specs.Meaning.{fitting};
 
-use super::{Fits, MOST_HEADS, MOST_TRACKS};
+use super::{Fits, MOST_TRACKS};
+use crate::set::HeadSet;
 
 impl Fits {
-    /// The fits of `rows.len()` tracks on `heads` heads: bit h of `rows[t]` is set if head h fits track t.
-    /// `None` if there are more than eight of either, or a row names a head that is not there.
-    pub fn new(heads: usize, rows: &[u8]) -> Option<Fits>
-        ensures { MatchOption result (Within heads rows.now → ⊥) (Made heads rows.now) }
-    {
-        if heads > MOST_HEADS || rows.len() > MOST_TRACKS {
-            return None;
-        }
-        let mut own = [0; MOST_TRACKS];
-        for (t, row) in rows.iter().enumerate() {
-            if u32::from(*row) >= 1u32 << heads {
-                return None;
-            }
-            own[t] = *row;
-        }
-        Some(Fits {
-            tracks: rows.len(),
-            heads,
-            rows: own,
-        })
-    }
-
     /// How many tracks there are.
     pub fn tracks(&self) -> usize
         ensures { result ≡ self.now.tracks }
@@ -44,17 +25,21 @@ impl Fits {
     pub fn contains(&self, track: usize, head: usize) -> bool
         ensures { result ≡ fitting self.now track head }
     {
-        if track >= self.tracks || head >= self.heads {
-            return false;
-        }
-        (self.rows[track] >> head) & 1 == 1
+        track < MOST_TRACKS && self.row(track).contains(head)
     }
 
-    /// For each track the set of the heads that fit it.
-    pub(crate) fn rows(&self) -> &[u8]
-        ensures value { result.now ≡ take self.now.tracks self.now.rows }
-        ensures len { length result.now ≡ self.now.tracks }
+    // The heads that fit the track.
+    pub(crate) fn row(&self, track: usize) -> HeadSet
+        requires { track < most_tracks }
+        ensures { result.number ≡ slice_index self.now.rows track }
     {
-        &self.rows[0..self.tracks]
+        HeadSet::of(self.rows[track])
+    }
+
+    // Is there a track that fits no head?
+    pub(crate) fn has_idle_track(&self) -> bool
+        ensures { OnTrue result ((t : ℕ) × (t < self.now.tracks) × (slice_index self.now.rows t ≡ 0)) }
+    {
+        self.rows[..self.tracks].contains(&0)
     }
 }

@@ -15,17 +15,13 @@ impl Placing {
     pub fn heads(&self) -> &[u8]
         ensures { result.now ≡ heads_of self.now }
     {
-        &self.heads[0..self.tracks]
+        &self.heads[..self.tracks]
     }
 
     /// The head under the track, if there is such a track.
     pub fn head(&self, track: usize) -> Option<u8>
         ensures { result ≡ (if nat_lt track self.now.tracks then Some (slice_index (heads_of self.now) track) else None) }
     {
-        if track < self.tracks {
-            Some(self.heads[track])
-        } else {
-            None
-        }
+        self.heads().get(track).copied()
     }
 }

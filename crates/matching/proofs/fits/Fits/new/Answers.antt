@@ -1,12 +1,26 @@
-use Rattle.std.proofs.Common.{refl, arith}
-use Rattle.matching.proofs.Rows.{same_table}
+use Rattle.std.proofs.Common.{length, refl, ap, ◌∙◌, arith}
+use Rattle.std.proofs.lemmas.Nat.{pow_pos}
+use Rattle.std.proofs.lemmas.Bool.{MatchBool-at_true}
+use Rattle.matching.specs.Sets.{has}
+use Rattle.matching.proofs.Rows.{get_d_past, padded, padded_within}
 use Rattle.matching.proofs.fits.Fits.new.Goals as goal
+
+pub invariant_of-result : goal.invariant_of-result
+invariant_of-result c =
+    let rows = c.args.rows.now in
+    let w = c.if-not-is_table.ensures in
+    record {
+      few_tracks = w.few_tracks;
+      few_heads = w.few_heads;
+      within = λ t. rw c.copy_from_slice.ensures.after (padded_within rows 8 (length rows) t (pow_pos c.args.heads) (w.each t));
+      unused = λ t l. rw c.copy_from_slice.ensures.after (padded rows 8 (length rows) t ∙ get_d_past rows t l);
+    }
 
 pub returns : goal.returns
 returns c =
     record {
-      within = record { few_heads = omega arith; few_tracks = omega arith; each = λ t l. c.loop-t.invariant.2 t (omega arith) };
+      within = c.if-not-is_table.ensures;
       same_heads = refl;
       same_tracks = refl;
-      same_fits = same_table c.loop-t.own c.args.rows.now (λ k l. c.loop-t.invariant.1 k (omega arith)) (λ k l. c.loop-t.invariant.3 k (omega arith));
+      same_fits = λ t h. ap (λ r. has r h) (rw c.copy_from_slice.ensures.after (padded c.args.rows.now 8 (length c.args.rows.now) t));
     }
