@@ -1,5 +1,6 @@
 -- The lines of a listing, and their bytes.
 use Rattle.std.specs.Prelude.{ℕ, List, [], ◌∷◌, ◌++◌, codes, decimal}
+use Rattle.std.specs.List.{flat_map}
 pub use Rattle.sheetfile.specs.Texts.{spaced, fault_line}
 
 -- a report: at this frame the signature of this name is seen, on these heads in the order of its tracks
@@ -10,8 +11,7 @@ pub record Report : Type 0 where
 
 -- each head in decimal, one after another; heads are below 8, so each has one figure
 abbrev pub figures : List ℕ → List ℕ
-figures [] = []
-figures (h ∷ hs) = decimal h ++ figures hs
+figures hs = flat_map decimal hs
 
 -- frame, blank, name, blank, heads, newline
 abbrev pub report_line : Report → List ℕ
