@@ -313,7 +313,7 @@ fn temperatures(rt: HostRuntime) {
     assert!(rt; Climate.read_reading(&[0x00, 0x00, 0x09, 0xC4]).is_some());
     assert!(rt; Climate.read_reading(&[0x00, 0x00, 0x09, 0xC5]).is_none());
     let mut bytes = [0u8; 4];
-    assert!(rt; Climate.write_reading(&coldest, &mut bytes));
+    assert!(rt; Climate.write_reading(&coldest, &mut bytes).is_ok());
     assert_eq!(rt; bytes, [0x00, 0x00, 0xFE, 0x70]);
 }
 

@@ -1,6 +1,6 @@
 -- A coding: how the values of a type are written as bytes, and which bytes read as a value.
 -- Tests and readings of a kind have one each, under the same laws.
-use Rattle.std.specs.Prelude.{◌≡◌, ℕ, ◌≤◌, Bool, true, cond, ◌&&◌, List, ◌++◌, length, drop, Some, None, Option, nat_le}
+use Rattle.std.specs.Prelude.{◌≡◌, ℕ, ◌≤◌, Bool, true, cond, ◌&&◌, List, ◌++◌, length, drop, Some, None, Option, nat_le, Result, is_ok, ⊤}
 use Rattle.kinds.specs.Bytes.{sized}
 
 pub record Coding (X : Type 0) : Type 0 where
@@ -34,8 +34,8 @@ pub record Lawful {X : Type 0} (most : ℕ) (c : Coding X) : Type 0 where
   pub some : 1 ≤ c.width
   pub few : c.width ≤ most
 
--- What writing x at the front of a buffer does: it answers whether there is room,
+-- What writing x at the front of a buffer does: it is done exactly where there is room,
 -- and without room the buffer stays as it was.
-pub record Written {X : Type 0} (c : Coding X) (x : X) (old : List ℕ) (room : Bool) (new : List ℕ) : Type 0 where
-  pub answer : room ≡ nat_le c.width (length old)
+pub record Written {X E : Type 0} (c : Coding X) (x : X) (old : List ℕ) (done : Result ⊤ E) (new : List ℕ) : Type 0 where
+  pub answer : is_ok done ≡ nat_le c.width (length old)
   pub buffer : new ≡ cond (nat_le c.width (length old)) (c.bytes x ++ drop c.width old) old

@@ -1,10 +1,10 @@
 // The band kind: a head tells one of sixteen moisture bands, and a test is the set of bands that pass.
-ghost use Rattle.std.specs.Prelude.{◌≡◌};
+ghost use Rattle.std.specs.Prelude.{◌≡◌, refl};
 ghost use Rattle.kinds.specs.Bands.{band_facts, set_sound, in_set, band_lawful};
 ghost use Rattle.kinds.specs.BandsLemmas.{sets_lawful, bands_lawful};
 ghost use Rattle.std.proofs.Common.{rules};
 
-use crate::buffer::write_front;
+use crate::buffer::{NoRoom, write_front};
 use crate::kind::Kind;
 
 // bands are numbered 0 to 15
@@ -14,7 +14,7 @@ pub const MOST_BAND: u8 = 15;
 pub struct Band;
 
 // A set of bands: band b is in it if the bit of weight 2^b is set.
-#[derive(Clone, Copy, PartialEq, Eq, Debug)]
+#[derive(Clone, Copy, Default, PartialEq, Eq, Debug)]
 pub struct BandSet {
     pub bits: u16,
 }
@@ -30,25 +30,25 @@ impl Kind for Band {
 
     const R: usize = 1;
 
+    ghost CODE = { 1 };
+
+    ghost W = { 2 };
+
+    ghost R = { 1 };
+
     ghost facts = { band_facts };
+
+    ghost code_is = { refl };
+
+    ghost test_width_is = { refl };
+
+    ghost reading_width_is = { refl };
 
     ghost coded = { Prim.search rules };
 
     ghost tests = { sets_lawful };
 
     ghost readings = { bands_lawful };
-
-    fn kind_code(self) -> u8 {
-        Self::CODE
-    }
-
-    fn test_width(self) -> usize {
-        Self::W
-    }
-
-    fn reading_width(self) -> usize {
-        Self::R
-    }
 
     fn is_lawful(self, reading: &u8) -> bool {
         *reading <= MOST_BAND
@@ -70,14 +70,10 @@ impl Kind for Band {
         let test = BandSet {
             bits: u16::from_be_bytes([*high, *low]),
         };
-        if self.is_sound(&test) {
-            Some(test)
-        } else {
-            None
-        }
+        self.is_sound(&test).then_some(test)
     }
 
-    fn write_test(self, test: &BandSet, buffer: &mut [u8]) -> bool {
+    fn write_test(self, test: &BandSet, buffer: &mut [u8]) -> Result<(), NoRoom> {
         let bytes = test.bits.to_be_bytes();
         write_front(&bytes, buffer)
     }
@@ -86,14 +82,10 @@ impl Kind for Band {
         let [band] = bytes else {
             return None;
         };
-        if self.is_lawful(band) {
-            Some(*band)
-        } else {
-            None
-        }
+        self.is_lawful(band).then_some(*band)
     }
 
-    fn write_reading(self, reading: &u8, buffer: &mut [u8]) -> bool {
+    fn write_reading(self, reading: &u8, buffer: &mut [u8]) -> Result<(), NoRoom> {
         let bytes = [*reading];
         write_front(&bytes, buffer)
     }

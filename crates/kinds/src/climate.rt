@@ -1,10 +1,10 @@
 // The climate kind: a head tells moisture and air temperature, and a test is a range of each.
-ghost use Rattle.std.specs.Prelude.{◌≡◌, List};
+ghost use Rattle.std.specs.Prelude.{◌≡◌, refl, List};
 ghost use Rattle.kinds.specs.Climates.{climate_facts, temperatures_sound, in_temperatures, temperature_lawful};
 ghost use Rattle.kinds.specs.ClimatesLemmas.{climate_tests_lawful, climate_readings_lawful};
 ghost use Rattle.std.proofs.Common.{rules};
 
-use crate::buffer::write_front;
+use crate::buffer::{NoRoom, write_front};
 use crate::kind::Kind;
 use crate::span::{MOST_MOISTURE, MoistureSpan};
 
@@ -17,20 +17,20 @@ pub const MOST_TEMPERATURE: i16 = 2_500;
 pub struct Climate;
 
 // Moisture in hundredths of a percent, and air temperature in tenths of a degree Celsius.
-#[derive(Clone, Copy, PartialEq, Eq, Debug)]
+#[derive(Clone, Copy, Default, PartialEq, Eq, Debug)]
 pub struct ClimateReading {
     pub moisture: u16,
     pub temperature: i16,
 }
 
 // Temperature from low to high, both ends within.
-#[derive(Clone, Copy, PartialEq, Eq, Debug)]
+#[derive(Clone, Copy, Default, PartialEq, Eq, Debug)]
 pub struct TemperatureSpan {
     pub low: i16,
     pub high: i16,
 }
 
-#[derive(Clone, Copy, PartialEq, Eq, Debug)]
+#[derive(Clone, Copy, Default, PartialEq, Eq, Debug)]
 pub struct ClimateTest {
     pub moisture: MoistureSpan,
     pub temperature: TemperatureSpan,
@@ -67,25 +67,25 @@ impl Kind for Climate {
 
     const R: usize = 4;
 
+    ghost CODE = { 3 };
+
+    ghost W = { 8 };
+
+    ghost R = { 4 };
+
     ghost facts = { climate_facts };
+
+    ghost code_is = { refl };
+
+    ghost test_width_is = { refl };
+
+    ghost reading_width_is = { refl };
 
     ghost coded = { Prim.search rules };
 
     ghost tests = { climate_tests_lawful };
 
     ghost readings = { climate_readings_lawful };
-
-    fn kind_code(self) -> u8 {
-        Self::CODE
-    }
-
-    fn test_width(self) -> usize {
-        Self::W
-    }
-
-    fn reading_width(self) -> usize {
-        Self::R
-    }
 
     fn is_lawful(self, reading: &ClimateReading) -> bool {
         reading.moisture <= MOST_MOISTURE && temperature_is_lawful(reading.temperature)
@@ -115,14 +115,10 @@ impl Kind for Climate {
             moisture,
             temperature,
         };
-        if self.is_sound(&test) {
-            Some(test)
-        } else {
-            None
-        }
+        self.is_sound(&test).then_some(test)
     }
 
-    fn write_test(self, test: &ClimateTest, buffer: &mut [u8]) -> bool {
+    fn write_test(self, test: &ClimateTest, buffer: &mut [u8]) -> Result<(), NoRoom> {
         let [a, b] = test.moisture.low.to_be_bytes();
         let [c, d] = test.moisture.high.to_be_bytes();
         let [e, f] = test.temperature.low.to_be_bytes();
@@ -139,14 +135,10 @@ impl Kind for Climate {
             moisture: u16::from_be_bytes([*a, *b]),
             temperature: i16::from_be_bytes([*c, *d]),
         };
-        if self.is_lawful(&reading) {
-            Some(reading)
-        } else {
-            None
-        }
+        self.is_lawful(&reading).then_some(reading)
     }
 
-    fn write_reading(self, reading: &ClimateReading, buffer: &mut [u8]) -> bool {
+    fn write_reading(self, reading: &ClimateReading, buffer: &mut [u8]) -> Result<(), NoRoom> {
         let [a, b] = reading.moisture.to_be_bytes();
         let [c, d] = reading.temperature.to_be_bytes();
         let bytes = [a, b, c, d];

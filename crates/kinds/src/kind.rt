@@ -1,7 +1,9 @@
 // What every kind of reading has to bring.
-ghost use Rattle.std.specs.Prelude.{◌≡◌};
+ghost use Rattle.std.specs.Prelude.{◌≡◌, ℕ};
 ghost use Rattle.kinds.specs.Codings.{Lawful, Written};
 ghost use Rattle.kinds.specs.Kinds.{Facts, Coded, most_test_width, most_reading_width};
+
+use crate::buffer::NoRoom;
 
 // A kind of reading. Its facts say what every answer is, from the arguments alone;
 // code that is generic over a kind is proved from the facts and the laws.
@@ -21,19 +23,14 @@ pub trait Kind: Copy {
     // bytes of a reading
     const R: usize;
 
+    // the three constants, as clauses and laws name them
+    ghost CODE: { ℕ };
+
+    ghost W: { ℕ };
+
+    ghost R: { ℕ };
+
     ghost facts: { Facts Self.Reading Self.Test };
-
-    // `CODE`, as generic code knows it.
-    fn kind_code(self) -> u8
-        ensures { result ≡ facts.code };
-
-    // `W`, as generic code knows it.
-    fn test_width(self) -> usize
-        ensures { result ≡ facts.tests.width };
-
-    // `R`, as generic code knows it.
-    fn reading_width(self) -> usize
-        ensures { result ≡ facts.readings.width };
 
     fn is_lawful(self, reading: &Self::Reading) -> bool
         ensures { result ≡ facts.readings.proper reading.now };
@@ -49,17 +46,24 @@ pub trait Kind: Copy {
     fn read_test(self, bytes: &[u8]) -> Option<Self::Test>
         ensures { result ≡ facts.tests.reads bytes.now };
 
-    // Writes the test at the front of the buffer; false, and nothing written, where it does not fit.
-    fn write_test(self, test: &Self::Test, buffer: &mut [u8]) -> bool
+    // Writes the test at the front of the buffer, or nothing where it does not fit.
+    fn write_test(self, test: &Self::Test, buffer: &mut [u8]) -> Result<(), NoRoom>
         ensures { Written facts.tests test.now buffer.old result buffer.new };
 
     // The lawful reading that these bytes are, or none.
     fn read_reading(self, bytes: &[u8]) -> Option<Self::Reading>
         ensures { result ≡ facts.readings.reads bytes.now };
 
-    // Writes the reading at the front of the buffer; false, and nothing written, where it does not fit.
-    fn write_reading(self, reading: &Self::Reading, buffer: &mut [u8]) -> bool
+    // Writes the reading at the front of the buffer, or nothing where it does not fit.
+    fn write_reading(self, reading: &Self::Reading, buffer: &mut [u8]) -> Result<(), NoRoom>
         ensures { Written facts.readings reading.now buffer.old result buffer.new };
+
+    // the constants are those of the facts
+    ghost code_is: { CODE ≡ facts.code };
+
+    ghost test_width_is: { W ≡ facts.tests.width };
+
+    ghost reading_width_is: { R ≡ facts.readings.width };
 
     // the code is 1 to 255
     ghost coded: { Coded facts.code };

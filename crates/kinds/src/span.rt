@@ -1,10 +1,10 @@
 // The span kind: a head tells moisture in hundredths of a percent, and a test is a range of it.
-ghost use Rattle.std.specs.Prelude.{◌≡◌, List};
+ghost use Rattle.std.specs.Prelude.{◌≡◌, refl, List};
 ghost use Rattle.kinds.specs.Spans.{span_facts, span_sound, in_span, span_bytes};
 ghost use Rattle.kinds.specs.SpansLemmas.{spans_lawful, moistures_lawful};
 ghost use Rattle.std.proofs.Common.{rules};
 
-use crate::buffer::write_front;
+use crate::buffer::{NoRoom, write_front};
 use crate::kind::Kind;
 
 // 100.00 percent
@@ -14,7 +14,7 @@ pub const MOST_MOISTURE: u16 = 10_000;
 pub struct Span;
 
 // Moisture from low to high, both ends within.
-#[derive(Clone, Copy, PartialEq, Eq, Debug)]
+#[derive(Clone, Copy, Default, PartialEq, Eq, Debug)]
 pub struct MoistureSpan {
     pub low: u16,
     pub high: u16,
@@ -45,25 +45,25 @@ impl Kind for Span {
 
     const R: usize = 2;
 
+    ghost CODE = { 2 };
+
+    ghost W = { 4 };
+
+    ghost R = { 2 };
+
     ghost facts = { span_facts };
+
+    ghost code_is = { refl };
+
+    ghost test_width_is = { refl };
+
+    ghost reading_width_is = { refl };
 
     ghost coded = { Prim.search rules };
 
     ghost tests = { spans_lawful };
 
     ghost readings = { moistures_lawful };
-
-    fn kind_code(self) -> u8 {
-        Self::CODE
-    }
-
-    fn test_width(self) -> usize {
-        Self::W
-    }
-
-    fn reading_width(self) -> usize {
-        Self::R
-    }
 
     fn is_lawful(self, reading: &u16) -> bool {
         *reading <= MOST_MOISTURE
@@ -85,10 +85,10 @@ impl Kind for Span {
             low: u16::from_be_bytes([*a, *b]),
             high: u16::from_be_bytes([*c, *d]),
         };
-        if test.is_sound() { Some(test) } else { None }
+        test.is_sound().then_some(test)
     }
 
-    fn write_test(self, test: &MoistureSpan, buffer: &mut [u8]) -> bool {
+    fn write_test(self, test: &MoistureSpan, buffer: &mut [u8]) -> Result<(), NoRoom> {
         let [a, b] = test.low.to_be_bytes();
         let [c, d] = test.high.to_be_bytes();
         let bytes = [a, b, c, d];
@@ -100,14 +100,10 @@ impl Kind for Span {
             return None;
         };
         let moisture = u16::from_be_bytes([*high, *low]);
-        if self.is_lawful(&moisture) {
-            Some(moisture)
-        } else {
-            None
-        }
+        self.is_lawful(&moisture).then_some(moisture)
     }
 
-    fn write_reading(self, reading: &u16, buffer: &mut [u8]) -> bool {
+    fn write_reading(self, reading: &u16, buffer: &mut [u8]) -> Result<(), NoRoom> {
         let bytes = reading.to_be_bytes();
         write_front(&bytes, buffer)
     }

@@ -1,8 +1,8 @@
 -- Reading the head field: its checks one by one, and the plan of a sheet that was read. Assumes the laws of the kind.
-use Rattle.std.proofs.Common.{◌≡◌, ℕ, suc, ◌+◌, ◌-◌, ◌<◌, ◌≤◌, true, false, not, eqb, leb, List, [], ◌∷◌, ◌++◌, length, get_or, take, drop, replicate, Ok, Err, Result, sym, refl, ap, ◌∙◌, subst, inr, arith}
+use Rattle.std.proofs.Common.{◌≡◌, ℕ, suc, ◌+◌, ◌<◌, ◌≤◌, true, false, not, eqb, leb, List, [], ◌∷◌, ◌++◌, length, get_or, take, drop, replicate, Ok, Err, Result, sym, refl, ap, ◌∙◌, subst, inr, arith}
 use Rattle.std.specs.List.{flat_map}
 use Rattle.std.proofs.lemmas.Bool.{ne_eqb, eq-eqb, leb-true, and_parts, not_from_true, not_from_false}
-use Rattle.std.proofs.lemmas.List.{length-drop, take_at, take_rest, drop-replicate}
+use Rattle.std.proofs.lemmas.List.{length-drop, take_at, drop-replicate}
 use Rattle.kinds.specs.Codings.{Coding, Lawful}
 use Rattle.kinds.specs.Kinds.{most_test_width, Coded}
 use Rattle.sheetfile.specs.declared.fault.Cause.TheVariants.{Length, Kind, Heads, Bare}
@@ -122,29 +122,25 @@ module _ {T : Type 0} (code : ℕ) (k : Coding T) (room : ℕ) (xs : List ℕ) w
             p4 : rule code k room xs ≡ r4 head
             p4 = p3 ∙ held _ (r4 head) _ (ne_eqb (length xs) 5 more)
 
-            -- the signatures, as the code has what is left
             abbrev read : Outcome T (List (Signature T))
-            read = signatures_read k room (get_or head 1 0) most_signatures 0 0 5 (take (length xs - 5) (drop 5 xs))
-
-            same : read ≡ rest head
-            same = ap (signatures_read k room (get_or head 1 0) most_signatures 0 0 5) (take_rest xs 5)
+            read = rest head
 
             all : rule code k room xs ≡ into (sheet head) read
-            all = p4 ∙ ap (into (sheet head)) (sym same)
+            all = p4
 
             module _ {s new : List T} {entries : List Entry} where
-              pub rule_broke : (e : Fault) → EntriesLeft (into (entries_of 0) read) s (replicate most_signatures blank) (Err e) new entries → PlanLeft (rule code k room xs) s (Err e) new
+              pub rule_broke : {entries₀ : List Entry} (e : Fault) → EntriesLeft (into (entries_of 0) read) s entries₀ (Err e) new entries → PlanLeft (rule code k room xs) s (Err e) new
               rule_broke e h =
                   let q = told_err length (mapped (entries_of 0) read.end) e h.read.answer in
                   let p = told_err (entries_of 0) read.end e (sym q) in
                   plan_err e (ap (λ o. o.end) all ∙ ap (mapped (sheet head)) p) (h.read.store_is ∙ ap (λ o. put 0 o.tests s) (sym all))
 
-              module _ (known : Coded code) (law : Lawful most_test_width k) (octets : Bytes xs) (count : ℕ) (h : EntriesLeft (into (entries_of 0) read) s (replicate most_signatures blank) (Ok count) new entries) where
+              module _ (known : Coded code) (law : Lawful most_test_width k) (octets : Bytes xs) (count : ℕ) (empty : Entry) (is_blank : empty ≡ blank) (h : EntriesLeft (into (entries_of 0) read) s (replicate most_signatures empty) (Ok count) new entries) where
                 found : (ss : List (Signature T)) × (read.end ≡ Ok ss) × (length (entries_of 0 ss) ≡ count) × (entries ≡ entries_of 0 ss ++ drop (length (entries_of 0 ss)) (replicate most_signatures blank))
                 found =
                     let q = told_ok length (mapped (entries_of 0) read.end) count h.read.answer in
                     let p = told_ok (entries_of 0) read.end q.0 (sym q.1) in
-                    (p.0, p.1, ap length p.2 ∙ q.2, h.filled (entries_of 0 p.0) (ap (mapped (entries_of 0)) p.1))
+                    (p.0, p.1, ap length p.2 ∙ q.2, h.filled (entries_of 0 p.0) (ap (mapped (entries_of 0)) p.1) ∙ ap (λ e. entries_of 0 p.0 ++ drop (length (entries_of 0 p.0)) (replicate most_signatures e)) is_blank)
 
                 front : take count entries ≡ entries_of 0 found.0
                 front = ap (take count) found.3 ∙ take_at (entries_of 0 found.0) (drop (length (entries_of 0 found.0)) (replicate most_signatures blank)) count found.2
@@ -156,7 +152,7 @@ module _ {T : Type 0} (code : ℕ) (k : Coding T) (room : ℕ) (xs : List ℕ) w
                 pub rule_kept : Kept (get_or head 0 0) (get_or head 1 0) count entries
                 rule_kept =
                     let ss = found.0 in
-                    let only = signatures_only k law room (get_or head 1 0) most_signatures 0 0 5 (drop 5 xs) ss (bytes_drop 5 xs octets) (ap (λ o. o.end) (sym same) ∙ found.1) in
+                    let only = signatures_only k law room (get_or head 1 0) most_signatures 0 0 5 (drop 5 xs) ss (bytes_drop 5 xs octets) found.1 in
                     let f = field_only 1 0 xs head octets (sym is) in
                     let more_bytes : 0 < length (drop 5 xs) = (let ne : length xs ≡ 5 → ⊥ = more in omega (arith, length-drop 5 xs, f.1, two, ne)) in
                     let one = some_signature ss (drop 5 xs) only.bytes more_bytes in

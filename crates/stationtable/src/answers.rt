@@ -91,10 +91,10 @@ fn put_look(out: &mut String, look: Result<Verdict, Refusal>) -> Result<(), Allo
 
 fn put_reading<K: Kind>(out: &mut String, kind: K, reading: &K::Reading) -> fmt::Result {
     let mut buffer = [0u8; MOST_WIDTH];
-    if !kind.write_reading(reading, &mut buffer) {
+    if kind.write_reading(reading, &mut buffer).is_err() {
         return Err(fmt::Error);
     }
-    let Some(bytes) = buffer.get(0..kind.reading_width()) else {
+    let Some(bytes) = buffer.get(0..K::R) else {
         return Err(fmt::Error);
     };
     hex::put(out, bytes)?;
@@ -127,7 +127,7 @@ where
 {
     match step {
         Step::Feed(bytes) => {
-            let frame = frame(heap, kind.reading_width(), bytes.as_slice())?;
+            let frame = frame(heap, K::R, bytes.as_slice())?;
             put_fed(out, station.feed(frame.as_slice()))?;
         }
         Step::Gap => {

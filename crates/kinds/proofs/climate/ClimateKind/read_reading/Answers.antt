@@ -1,21 +1,14 @@
-use Rattle.std.proofs.Common.{◌≡◌, true, sym, arith, ltb-false, ltb-true}
+use Rattle.std.proofs.Common.{◌≡◌, true, arith, ltb-false, ltb-true}
 use Rattle.kinds.specs.Bytes.{sized}
 use Rattle.kinds.specs.Climates.{climate_lawful, reading_bytes, reading_at}
 use Rattle.kinds.specs.BytesLemmas.{sized_of}
 use Rattle.kinds.specs.ClimatesLemmas.{reading_is}
-use Rattle.kinds.specs.CodingsLemmas.{fixed_some, fixed_none}
+use Rattle.kinds.specs.CodingsLemmas.{fixed_answer}
 use Rattle.kinds.proofs.climate.ClimateKind.read_reading.Goals as goal
 
-pub returns-then-is_lawful : goal.returns-then-is_lawful
-returns-then-is_lawful c =
+pub returns : goal.returns
+returns c =
     let bs = c.args.bytes.now in
     let all : sized 4 bs ≡ true = sized_of 4 bs (omega (arith, ltb-true, ltb-false)) (λ i. let f = c.type_inv.bytes i in omega arith) in
     let is = reading_is bs _ _ all c.from_be_bytes.ensures c.from_be_bytes-2.ensures in
-    sym (fixed_some 4 climate_lawful reading_bytes reading_at bs _ all is (sym c.if-is_lawful.ensures))
-
-pub returns-else-is_lawful : goal.returns-else-is_lawful
-returns-else-is_lawful c =
-    let bs = c.args.bytes.now in
-    let all : sized 4 bs ≡ true = sized_of 4 bs (omega (arith, ltb-true, ltb-false)) (λ i. let f = c.type_inv.bytes i in omega arith) in
-    let is = reading_is bs _ _ all c.from_be_bytes.ensures c.from_be_bytes-2.ensures in
-    sym (fixed_none 4 climate_lawful reading_bytes reading_at bs _ all is (sym c.if-is_lawful.ensures))
+    fixed_answer 4 climate_lawful reading_bytes reading_at bs _ _ _ all is c.is_lawful.ensures c.then_some.ensures
