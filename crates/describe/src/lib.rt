@@ -1,7 +1,6 @@
 // A sheet file in words: what it says, or what is wrong with it and where.
 #![tactic(auto)]
 
-mod figures;
 mod file;
 mod text;
 mod words;
