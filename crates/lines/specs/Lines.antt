@@ -1,6 +1,7 @@
 -- The lines of a listing, and their bytes.
 use Rattle.std.specs.Prelude.{ℕ, List, [], ◌∷◌, ◌++◌, codes, decimal}
-use Rattle.sheetfile.specs.Card.{Told}
+use Rattle.std.specs.List.{flat_map}
+pub use Rattle.sheetfile.specs.Texts.{spaced, fault_line}
 
 -- a report: at this frame the signature of this name is seen, on these heads in the order of its tracks
 pub record Report : Type 0 where
@@ -10,12 +11,7 @@ pub record Report : Type 0 where
 
 -- each head in decimal, one after another; heads are below 8, so each has one figure
 abbrev pub figures : List ℕ → List ℕ
-figures [] = []
-figures (h ∷ hs) = decimal h ++ figures hs
-
--- a blank, and a number in decimal
-abbrev pub spaced : ℕ → List ℕ
-spaced n = 32 ∷ decimal n
+figures hs = flat_map decimal hs
 
 -- frame, blank, name, blank, heads, newline
 abbrev pub report_line : Report → List ℕ
@@ -29,7 +25,3 @@ report_lines (r ∷ rs) = report_line r ++ report_lines rs
 -- `end`, blank, frames, blank, gaps, newline
 abbrev pub end_line : ℕ → ℕ → List ℕ
 end_line frames gaps = codes "end" ++ (spaced frames ++ (spaced gaps ++ (10 ∷ [])))
-
--- `fault`, blank, number, blank, layer, blank, place, newline
-abbrev pub fault_line : Told → List ℕ
-fault_line t = codes "fault" ++ (spaced t.number ++ (spaced t.layer ++ (spaced t.place ++ (10 ∷ []))))

@@ -11,24 +11,25 @@ use Rattle.sheetfile.specs.declared.fault.Fault.{Fault}
 use Rattle.sheetfile.specs.Card.{fault}
 use Rattle.sheetfile.specs.Outcomes.{Outcome, stop, give, check, into, bare, chain}
 use Rattle.sheetfile.specs.Fields.{Part, track, track_in}
-use Rattle.sheetfile.specs.Reading.{one, tests_read, track_read, track_size, tracks_read}
+use Rattle.sheetfile.specs.Reading.{tests_read, track_read, track_size, tracks_read}
+use Rattle.sheetfile.specs.Values.{one_value, values_read}
 use Rattle.sheetfile.proofs.Outcomes.{went_on, told_ok, twice, bare_into}
-use Rattle.sheetfile.proofs.Only.{tests_only}
+use Rattle.sheetfile.proofs.Only.{values_only}
 use Rattle.sheet.specs.Stored.{Left}
 use Rattle.sheet.proofs.Puts.{Same, same_first, same_at, same_last, same_test, same_chain, left_chain, stopped}
 
 module _ {T : Type 0} (k : Coding T) where
   -- tests are read from their own bytes alone
   pub tests_own : (m at : ℕ) (xs : List ℕ) → tests_read k m at (take (m * k.width) xs) ≡ tests_read k m at xs
-  unfolding tests_read
+  unfolding values_read
   tests_own zero at xs = refl
   tests_own (suc m) at xs =
       let w = k.width in
       let front : take w (take (suc m * w) xs) ≡ take w xs = take-take w (suc m * w) xs (omega (arith, suc-mul m w)) in
       let rest : drop w (take (suc m * w) xs) ≡ take (m * w) (drop w xs) = ap (λ n. drop w (take n xs)) (omega (arith, suc-mul m w)) ∙ drop-take w (m * w) xs in
-      ap (λ ys. one (k.reads ys) at (tests_read k m (at + w) (drop w (take (suc m * w) xs)))) front
-      ∙ ap (λ ys. one (k.reads (take w xs)) at (tests_read k m (at + w) ys)) rest
-      ∙ ap (λ r. one (k.reads (take w xs)) at r) (tests_own m (at + w) (drop w xs))
+      ap (λ ys. one_value Test (k.reads ys) at (tests_read k m (at + w) (drop w (take (suc m * w) xs)))) front
+      ∙ ap (λ ys. one_value Test (k.reads (take w xs)) at (tests_read k m (at + w) ys)) rest
+      ∙ ap (λ r. one_value Test (k.reads (take w xs)) at r) (tests_own m (at + w) (drop w xs))
 
   -- the track field that the field layer hands on, or its fault, is the rule's
   module _ (m at : ℕ) (xs : List ℕ) (long : track_size k m ≤ length xs) where
@@ -39,7 +40,7 @@ module _ {T : Type 0} (k : Coding T) where
     body_in = take (m * k.width) (drop 3 xs)
 
     abbrev handed : Bool → Bool → Result Part Fault
-    handed tagged sized = cond tagged (cond sized (Ok (track body_in at)) (Err (fault Length at))) (Err (fault Tag at))
+    handed tagged sized = cond (not tagged) (Err (fault Tag at)) (cond (not sized) (Err (fault Length at)) (Ok (track body_in at)))
 
     abbrev checked : Bool → Bool → Outcome T (List T)
     checked tagged sized = check (not tagged) (fault Tag at) (check (not sized) (fault Length at) tests)
@@ -49,7 +50,7 @@ module _ {T : Type 0} (k : Coding T) where
     not_cut =
         let sized = eqb (word xs 1) (m * k.width) in
         cond-false _ _ _ (le-ltb (length xs) 3 (omega arith))
-        ∙ ap (λ b. cond (eqb (get_or xs 0 0) 3) (cond sized (cond b (Err (fault Cut at)) (Ok (track body_in at))) (Err (fault Length at))) (Err (fault Tag at))) (le-ltb (length xs) (3 + m * k.width) long)
+        ∙ ap (λ b. cond (not (eqb (get_or xs 0 0) 3)) (Err (fault Tag at)) (cond (not sized) (Err (fault Length at)) (cond b (Err (fault Cut at)) (Ok (track body_in at))))) (le-ltb (length xs) (3 + m * k.width) long)
 
     bad : (a b : Bool) (e : Fault) → Err e ≡ handed a b → checked a b ≡ stop e
     bad false b e h = let q : fault Tag at ≡ e = cc in ap stop q
@@ -68,12 +69,12 @@ module _ {T : Type 0} (k : Coding T) where
     track_good body place h = good (eqb (get_or xs 0 0) 3) (eqb (word xs 1) (m * k.width)) body place (h ∙ not_cut)
 
 module _ {T : Type 0} (k : Coding T) where
-  pub tests_some : (left less at : ℕ) (xs : List ℕ) → left ≡ suc less → tests_read k left at xs ≡ one (k.reads (take k.width xs)) at (tests_read k less (at + k.width) (drop k.width xs))
-  unfolding tests_read
+  pub tests_some : (left less at : ℕ) (xs : List ℕ) → left ≡ suc less → tests_read k left at xs ≡ one_value Test (k.reads (take k.width xs)) at (tests_read k less (at + k.width) (drop k.width xs))
+  unfolding values_read
   tests_some left less at xs h = ap (λ n. tests_read k n at xs) h
 
   pub tests_none : (left at : ℕ) (xs : List ℕ) → left ≡ 0 → tests_read k left at xs ≡ give []
-  unfolding tests_read
+  unfolding values_read
   tests_none left at xs h = ap (λ n. tests_read k n at xs) h
 
   pub record TestsTurn (frames at : ℕ) (body : List ℕ) (from : ℕ) (s₀ : List T) (i place : ℕ) (rest : List ℕ) (s : List T) : Type 0 where
@@ -102,7 +103,7 @@ module _ {T : Type 0} (k : Coding T) where
         let fits = enough h l in
         let more = tests_read k less (place + w) (drop w rest) in
         let step : bare (tests_read k (frames - i) place rest) ≡ record { tests = t ∷ more.tests; end = (bare more).end } =
-        ap bare (tests_some (frames - i) less place rest e ∙ ap (λ o. one o place more) (sym reads)) ∙ ap (λ r. record { tests = t ∷ more.tests; end = r }) (twice (λ ts. t ∷ ts) (λ ts. tt) more.end) in
+        ap bare (tests_some (frames - i) less place rest e ∙ ap (λ o. one_value Test o place more) (sym reads)) ∙ ap (λ r. record { tests = t ∷ more.tests; end = r }) (twice (λ ts. t ∷ ts) (λ ts. tt) more.end) in
         record {
           same = subst (λ (m : ℕ). Same (bare (tests_read k frames at body)) from s₀ (bare more) m (set s (from + i) t)) (omega arith) (same_test t h.same (omega (arith, h.room)) step);
           long = omega (arith, length-drop w rest, h.long, ap (λ n. n * w) e, suc-mul less w);
@@ -121,7 +122,7 @@ module _ {T : Type 0} (k : Coding T) where
     pub tests_break : {i place : ℕ} {rest : List ℕ} {s : List T} (d : Fault) → d ≡ fault Test place → TestsTurn frames at body from s₀ i place rest s → i < frames → None ≡ k.reads (take k.width rest) → Left (bare (tests_read k frames at body)) from s₀ (Err d) s
     tests_break {i = i} {place = place} {rest = rest} d is h l reads =
         let e : frames - i ≡ suc (frames - (i + 1)) = omega arith in
-        same_last _ h.same (stopped d is (ap bare (tests_some (frames - i) (frames - (i + 1)) place rest e ∙ ap (λ o. one o place (tests_read k (frames - (i + 1)) (place + k.width) (drop k.width rest))) (sym reads))))
+        same_last _ h.same (stopped d is (ap bare (tests_some (frames - i) (frames - (i + 1)) place rest e ∙ ap (λ o. one_value Test o place (tests_read k (frames - (i + 1)) (place + k.width) (drop k.width rest))) (sym reads))))
 
     pub tests_end : {i place : ℕ} {rest : List ℕ} {s : List T} → TestsTurn frames at body from s₀ i place rest s → frames ≤ i → Left (bare (tests_read k frames at body)) from s₀ (Ok tt) s
     tests_end {i = i} {place = place} {rest = rest} h l = same_last _ h.same (ap bare (tests_none (frames - i) place rest (omega arith)))
@@ -133,7 +134,7 @@ module _ {T : Type 0} (k : Coding T) (law : Lawful most_test_width k) (m : ℕ) 
       let then = check (not (eqb (word xs 1) (m * k.width))) (fault Length at) rest in
       let p = went_on (not (eqb (get_or xs 0 0) 3)) (fault Tag at) then ts h in
       let q = went_on (not (eqb (word xs 1) (m * k.width))) (fault Length at) rest ts p.2 in
-      let all = tests_only k law m (at + 3) (drop 3 xs) ts q.2 in
+      let all = values_only k law Test m (at + 3) (drop 3 xs) ts q.2 in
       ap (λ o. length o.tests) (p.1 ∙ q.1) ∙ ap length all.tests ∙ all.within.long
 
   -- so many tracks, where one is left

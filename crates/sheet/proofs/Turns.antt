@@ -11,7 +11,7 @@ use Rattle.sheetfile.specs.Card.{fault}
 use Rattle.sheetfile.specs.Sheets.{Signature, test_count}
 use Rattle.sheetfile.specs.Encoding.{field, signature_tag}
 use Rattle.sheetfile.specs.Outcomes.{Outcome, stop, give, on, mapped, into, chain}
-use Rattle.sheetfile.specs.Reading.{field_read, one, signature_read, signatures_read}
+use Rattle.sheetfile.specs.Reading.{field_read, signature_read, signatures_read}
 use Rattle.sheetfile.proofs.Outcomes.{told_ok, into_same, into_into}
 use Rattle.sheetfile.proofs.Back.{tests_long}
 use Rattle.sheetfile.proofs.Only.{Bytes, bytes_drop, field_only, signature_only}

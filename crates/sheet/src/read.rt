@@ -9,14 +9,14 @@ use crate::signature::is_within;
 use crate::signatures::read_signatures;
 use kinds::kind::Kind;
 use sheetfile::fault::{Cause, Fault};
-use sheetfile::field::head_body;
+use sheetfile::field::{Tag, body_of};
 use sheetfile::limits::{MOST_HEADS, MOST_SIGNATURES};
 
 // The plan of the sheet in `bytes`; its tests go into the store.
 fn read_plan<K: Kind>(kind: K, bytes: &[u8], store: &mut [K::Test]) -> Result<Plan, Fault>
     ensures { PlanLeft (rule K.facts.code K.facts.tests (length store.old) bytes.now) store.old result store.new }
 {
-    let head = head_body(bytes, 0)?;
+    let head = body_of(Tag::Head, bytes, 0)?;
     let [code, heads] = head else {
         return Err(Cause::Length.at(0));
     };

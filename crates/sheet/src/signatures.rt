@@ -9,7 +9,7 @@ use crate::entry::Entry;
 use crate::signature::read_signature;
 use kinds::kind::Kind;
 use sheetfile::fault::{Cause, Fault};
-use sheetfile::field::signature_body;
+use sheetfile::field::{Tag, body_of};
 
 // Reads all signatures of `bytes`, which stands at `at`: as many as there are entries, at most.
 // Says how many entries it filled.
@@ -31,7 +31,7 @@ pub(crate) fn read_signatures<K: Kind>(
     let mut used = 0;
     let mut count = 0;
     while rest.len() > 0 {
-        let body = signature_body(rest, place)?;
+        let body = body_of(Tag::Signature, rest, place)?;
         if count == entries.len() {
             return Err(Cause::Thirteenth.at(place));
         }

@@ -7,7 +7,7 @@ ghost use Rattle.sheet.specs.Stored.{Left};
 
 use kinds::kind::Kind;
 use sheetfile::fault::{Cause, Fault};
-use sheetfile::field::{Field, track_field};
+use sheetfile::field::track_body;
 
 // Reads `frames` tests from the front of `body`, which stands at `at`, into the store from `from` on.
 fn read_tests<K: Kind>(
@@ -52,10 +52,8 @@ fn read_track<K: Kind>(
     requires near { at + length rest.now < 2 ^ 64 }
     ensures { Left (bare (track_read K.facts.tests frames at rest.now)) from store.old result store.new }
 {
-    match track_field(rest, at, frames * kind.test_width())? {
-        Field::Track(tests, place) => read_tests(kind, tests, place + 3, frames, store, from),
-        Field::Head(_, place) | Field::Signature(_, place) => Err(Cause::Tag.at(place)),
-    }
+    let tests = track_body(rest, at, frames * kind.test_width())?;
+    read_tests(kind, tests, at + 3, frames, store, from)
 }
 
 // Reads `tracks` tracks from the front of `body`, one after another.

@@ -7,13 +7,15 @@ use Rattle.kinds.specs.Bytes.{word}
 use Rattle.kinds.specs.Codings.{Coding, Lawful}
 use Rattle.kinds.specs.Kinds.{most_test_width}
 use Rattle.kinds.specs.BytesLemmas.{word_of}
-use Rattle.sheetfile.specs.declared.fault.Cause.TheVariants.{Length, Kind, Heads, Bare}
+use Rattle.sheetfile.specs.declared.fault.Cause.{Cause}
+use Rattle.sheetfile.specs.declared.fault.Cause.TheVariants.{Length, Kind, Heads, Test, Bare}
 use Rattle.sheetfile.specs.Card.{fault}
 use Rattle.sheetfile.specs.Limits.{most_heads, most_signatures, least_frames, most_frames, within}
 use Rattle.sheetfile.specs.Sheets.{Signature, Sheet, Each, TrackWithin, SignatureWithin, Rising, Within, test_count, tests_of, all_tests}
 use Rattle.sheetfile.specs.Encoding.{field, track_bytes, signature_body, signature_bytes, encode}
 use Rattle.sheetfile.specs.Outcomes.{Outcome, check, on, into, after, chain}
-use Rattle.sheetfile.specs.Reading.{field_read, one, tests_read, track_read, track_size, tracks_read, signature_read, signatures_read, rule}
+use Rattle.sheetfile.specs.Reading.{field_read, tests_read, track_read, track_size, tracks_read, signature_read, signatures_read, rule}
+use Rattle.sheetfile.specs.Values.{one_value, values_read}
 use Rattle.sheetfile.proofs.Outcomes.{held, is_not, is_within}
 
 pub field_back : (tag at : ℕ) (body more : List ℕ) → length body < 65536 → field_read tag at (field tag body ++ more) ≡ Ok body
@@ -33,18 +35,18 @@ module _ {T : Type 0} (k : Coding T) (law : Lawful most_test_width k) where
   spelled (t ∷ ts) h =
       length-append (k.bytes t) (flat_map k.bytes ts) ∙ omega (arith, law.wide t h.0, spelled ts h.1, suc-mul (length ts) k.width)
 
-  pub tests_back : (ts : List T) (at : ℕ) (more : List ℕ) → Each (λ t. k.proper t ≡ true) ts → tests_read k (length ts) at (flat_map k.bytes ts ++ more) ≡ record { tests = ts; end = Ok ts }
-  unfolding tests_read
-  tests_back [] at more h = refl
-  tests_back (t ∷ ts) at more h =
+  pub values_back : (cause : Cause) (ts : List T) (at : ℕ) (more : List ℕ) → Each (λ t. k.proper t ≡ true) ts → values_read cause k (length ts) at (flat_map k.bytes ts ++ more) ≡ record { tests = ts; end = Ok ts }
+  unfolding values_read
+  values_back cause [] at more h = refl
+  values_back cause (t ∷ ts) at more h =
       let ys = flat_map k.bytes ts ++ more in
       let whole : flat_map k.bytes (t ∷ ts) ++ more ≡ k.bytes t ++ ys = append_assoc (k.bytes t) (flat_map k.bytes ts) more in
-      let rest : ℕ → List ℕ → Outcome T (List T) = λ p xs. tests_read k (length ts) p xs in
-      ap (λ xs. one (k.reads (take k.width xs)) at (rest (at + k.width) (drop k.width xs))) whole
-      ∙ ap (λ xs. one (k.reads xs) at (rest (at + k.width) (drop k.width (k.bytes t ++ ys)))) (take_at (k.bytes t) ys k.width (law.wide t h.0))
-      ∙ ap (λ o. one o at (rest (at + k.width) (drop k.width (k.bytes t ++ ys)))) (law.back t h.0)
-      ∙ ap (λ xs. one (Some t) at (rest (at + k.width) xs)) (drop_at (k.bytes t) ys k.width (law.wide t h.0))
-      ∙ ap (λ r. one (Some t) at r) (tests_back ts (at + k.width) more h.1)
+      let rest : ℕ → List ℕ → Outcome T (List T) = λ p xs. values_read cause k (length ts) p xs in
+      ap (λ xs. one_value cause (k.reads (take k.width xs)) at (rest (at + k.width) (drop k.width xs))) whole
+      ∙ ap (λ xs. one_value cause (k.reads xs) at (rest (at + k.width) (drop k.width (k.bytes t ++ ys)))) (take_at (k.bytes t) ys k.width (law.wide t h.0))
+      ∙ ap (λ o. one_value cause o at (rest (at + k.width) (drop k.width (k.bytes t ++ ys)))) (law.back t h.0)
+      ∙ ap (λ xs. one_value cause (Some t) at (rest (at + k.width) xs)) (drop_at (k.bytes t) ys k.width (law.wide t h.0))
+      ∙ ap (λ r. one_value cause (Some t) at r) (values_back cause ts (at + k.width) more h.1)
 
   few_bytes : (m : ℕ) → m ≤ most_frames → m * k.width ≤ 512
   few_bytes m h = mul-le-mul h law.few
@@ -59,7 +61,7 @@ module _ {T : Type 0} (k : Coding T) (law : Lawful most_test_width k) where
       let w : word xs 1 ≡ length (flat_map k.bytes ts) = word_of _ (omega arith) in
       held _ _ (not (eqb (word xs 1) (m * k.width))) (is_not (word xs 1) (m * k.width) (omega arith))
       ∙ ap (λ n. tests_read k n (at + 3) (flat_map k.bytes ts ++ more)) (sym h.long)
-      ∙ tests_back ts (at + 3) more h.sound
+      ∙ values_back Test ts (at + 3) more h.sound
 
   track_long : (m : ℕ) (ts : List T) → TrackWithin k m ts → length (track_bytes k ts) ≡ track_size k m
   unfolding track_bytes

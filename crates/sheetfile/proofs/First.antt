@@ -10,8 +10,9 @@ use Rattle.sheetfile.specs.Card.{Told, told, fault}
 use Rattle.sheetfile.specs.Limits.{most_heads, most_signatures, least_frames, most_frames, within}
 use Rattle.sheetfile.specs.Sheets.{Signature, Sheet, test_count}
 use Rattle.sheetfile.specs.Outcomes.{Outcome, stop, give, check, on, mapped, into, chain}
-use Rattle.sheetfile.specs.Reading.{field_read, one, tests_read, track_read, track_size, tracks_read, signature_read, signatures_read, rule}
+use Rattle.sheetfile.specs.Reading.{field_read, tests_read, track_read, track_size, tracks_read, signature_read, signatures_read, rule}
 use Rattle.sheetfile.specs.Checks.{Check, or_fault, field_checks, test_checks, track_checks, tracks_checks, signature_checks, signatures_checks, sheet_checks, AllHold, FirstFails}
+use Rattle.sheetfile.specs.Values.{one_value, values_read}
 use Rattle.sheetfile.proofs.Outcomes.{passed, chosen, went_on, chain_ok, mapped_ok}
 
 -- what a list of checks comes to, and what a reading tells
@@ -97,13 +98,13 @@ field_body tag at xs body h =
 
 module _ {T : Type 0} (k : Coding T) where
   tests_shown : (m at : ℕ) (xs : List ℕ) → shown (tests_read k m at xs).end ≡ run (test_checks k m at xs)
-  unfolding tests_read test_checks
+  unfolding values_read test_checks
   tests_shown zero at xs = refl
   tests_shown (suc m) at xs =
       one_shown (k.reads (take k.width xs)) (tests_read k m (at + k.width) (drop k.width xs))
       ∙ ap (λ r. cond (is_some (k.reads (take k.width xs))) r (Err (told (fault Test at)))) (tests_shown m (at + k.width) (drop k.width xs))
     where
-      one_shown : (o : Option T) (r : Outcome T (List T)) → shown (one o at r).end ≡ cond (is_some o) (shown r.end) (Err (told (fault Test at)))
+      one_shown : (o : Option T) (r : Outcome T (List T)) → shown (one_value Test o at r).end ≡ cond (is_some o) (shown r.end) (Err (told (fault Test at)))
       one_shown None r = refl
       one_shown (Some t) r = shown_mapped (λ ts. t ∷ ts) r.end
 

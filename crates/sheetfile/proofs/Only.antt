@@ -5,13 +5,15 @@ use Rattle.std.proofs.lemmas.Bool.{ltb-false, leb-true, eqb-true, eqb-false, not
 use Rattle.std.proofs.lemmas.List.{append-nil, drop_all, append_assoc, length-append, length-drop, length-take-le, take-append-drop, drop-drop, nil_from_length}
 use Rattle.kinds.specs.Codings.{Coding, Lawful}
 use Rattle.kinds.specs.Kinds.{most_test_width}
-use Rattle.sheetfile.specs.declared.fault.Cause.TheVariants.{Length, Kind, Heads, Thirteenth, Bare}
+use Rattle.sheetfile.specs.declared.fault.Cause.{Cause}
+use Rattle.sheetfile.specs.declared.fault.Cause.TheVariants.{Length, Kind, Heads, Test, Thirteenth, Bare}
 use Rattle.sheetfile.specs.Card.{fault}
 use Rattle.sheetfile.specs.Limits.{most_heads, most_signatures, least_frames, most_frames, within}
 use Rattle.sheetfile.specs.Sheets.{Signature, Sheet, Each, TrackWithin, SignatureWithin, Rising, Within, test_count, tests_of, all_tests}
 use Rattle.sheetfile.specs.Encoding.{field, track_bytes, signature_body, signature_bytes, encode}
 use Rattle.sheetfile.specs.Outcomes.{Outcome, stop, give, check, on, into, chain}
-use Rattle.sheetfile.specs.Reading.{field_read, one, tests_read, track_read, track_size, tracks_read, signature_read, signatures_read, rule}
+use Rattle.sheetfile.specs.Reading.{field_read, track_read, track_size, tracks_read, signature_read, signatures_read, rule}
+use Rattle.sheetfile.specs.Values.{one_value, values_read}
 use Rattle.sheetfile.proofs.Outcomes.{passed, chosen, went_on, either_way, on_ok, chain_ok, mapped_ok}
 use Rattle.sheetfile.proofs.Back.{spelled, tests_long}
 
@@ -28,9 +30,9 @@ bytes_take zero xs h = tt
 bytes_take (suc n) [] h = tt
 bytes_take (suc n) (x ∷ xs) h = (h.0, bytes_take n xs h.1)
 
-one_ok : {T : Type 0} (o : Option T) (at : ℕ) (r : Outcome T (List T)) (ts : List T) → (one o at r).end ≡ Ok ts → (t : T) × (us : List T) × (o ≡ Some t) × (r.end ≡ Ok us) × (t ∷ us ≡ ts) × ((one o at r).tests ≡ t ∷ r.tests)
-one_ok None at r ts h = let z : ◌≡◌ {A = ℕ} 0 1 = cc in absurd (omega arith)
-one_ok (Some t) at r ts h = let p = mapped_ok (λ us. t ∷ us) r.end ts h in (t, p.0, refl, p.1, p.2, refl)
+one_ok : {T : Type 0} (cause : Cause) (o : Option T) (at : ℕ) (r : Outcome T (List T)) (ts : List T) → (one_value cause o at r).end ≡ Ok ts → (t : T) × (us : List T) × (o ≡ Some t) × (r.end ≡ Ok us) × (t ∷ us ≡ ts) × ((one_value cause o at r).tests ≡ t ∷ r.tests)
+one_ok cause None at r ts h = let z : ◌≡◌ {A = ℕ} 0 1 = cc in absurd (omega arith)
+one_ok cause (Some t) at r ts h = let p = mapped_ok (λ us. t ∷ us) r.end ts h in (t, p.0, refl, p.1, p.2, refl)
 
 is : (a b : ℕ) → not (eqb a b) ≡ false → a ≡ b
 is a b h = eqb-true a b (not-false (eqb a b) h)
@@ -57,29 +59,29 @@ field_only tag at (a ∷ b ∷ c ∷ ys) body h e =
     ((cc), omega arith, subst (λ (zs : List ℕ). Bytes zs) r.1 (bytes_take n ys h.1.1.1))
 
 module _ {T : Type 0} (k : Coding T) (law : Lawful most_test_width k) where
-  pub record TestsOnly (m : ℕ) (xs : List ℕ) (r : Outcome T (List T)) (ts : List T) : Type 0 where
+  pub record ValuesOnly (m : ℕ) (xs : List ℕ) (r : Outcome T (List T)) (ts : List T) : Type 0 where
     pub bytes : xs ≡ flat_map k.bytes ts ++ drop (m * k.width) xs
     pub within : TrackWithin k m ts
     pub tests : r.tests ≡ ts
 
-  pub tests_only : (m at : ℕ) (xs : List ℕ) (ts : List T) → (tests_read k m at xs).end ≡ Ok ts → TestsOnly m xs (tests_read k m at xs) ts
-  unfolding tests_read
-  tests_only zero at xs [] h = record { bytes = ap (λ n. drop n xs) (sym (zero-mul k.width)); within = record { long = refl; sound = tt }; tests = refl }
-  tests_only zero at xs (t ∷ ts) h = let z : ◌≡◌ {A = ℕ} 0 1 = cc in absurd (omega arith)
-  tests_only (suc m) at xs ts h =
+  pub values_only : (cause : Cause) (m at : ℕ) (xs : List ℕ) (ts : List T) → (values_read cause k m at xs).end ≡ Ok ts → ValuesOnly m xs (values_read cause k m at xs) ts
+  unfolding values_read
+  values_only cause zero at xs [] h = record { bytes = ap (λ n. drop n xs) (sym (zero-mul k.width)); within = record { long = refl; sound = tt }; tests = refl }
+  values_only cause zero at xs (t ∷ ts) h = let z : ◌≡◌ {A = ℕ} 0 1 = cc in absurd (omega arith)
+  values_only cause (suc m) at xs ts h =
       let w = k.width in
-      let p = one_ok (k.reads (take w xs)) at (tests_read k m (at + w) (drop w xs)) ts h in
+      let p = one_ok cause (k.reads (take w xs)) at (values_read cause k m (at + w) (drop w xs)) ts h in
       let t = p.0 in
       let us = p.1 in
-      let more = tests_only m (at + w) (drop w xs) us p.3 in
+      let more = values_only cause m (at + w) (drop w xs) us p.3 in
       let c = law.only (take w xs) t p.2 in
       let far : drop (m * w) (drop w xs) ≡ drop (suc m * w) xs = drop-drop (m * w) w xs ∙ ap (λ n. drop n xs) (omega (arith, suc-mul m w)) in
-      let all : TestsOnly (suc m) xs (tests_read k (suc m) at xs) (t ∷ us) = record {
+      let all : ValuesOnly (suc m) xs (values_read cause k (suc m) at xs) (t ∷ us) = record {
         bytes = sym (take-append-drop w xs) ∙ ap (λ ys. ys ++ drop w xs) (sym c.1) ∙ ap (λ ys. k.bytes t ++ ys) (more.bytes ∙ ap (λ ys. flat_map k.bytes us ++ ys) far) ∙ sym (append_assoc (k.bytes t) (flat_map k.bytes us) (drop (suc m * w) xs));
         within = record { long = ap suc more.within.long; sound = (c.0, more.within.sound) };
         tests = p.5 ∙ ap (λ vs. t ∷ vs) more.tests;
       } in
-      subst (λ (vs : List T). TestsOnly (suc m) xs (tests_read k (suc m) at xs) vs) p.4 all
+      subst (λ (vs : List T). ValuesOnly (suc m) xs (values_read cause k (suc m) at xs) vs) p.4 all
 
   pub record TrackOnly (m : ℕ) (xs : List ℕ) (r : Outcome T (List T)) (ts : List T) : Type 0 where
     pub bytes : xs ≡ track_bytes k ts ++ drop (track_size k m) xs
@@ -96,7 +98,7 @@ module _ {T : Type 0} (k : Coding T) (law : Lawful most_test_width k) where
       let w = k.width in
       let p = went_on _ _ _ ts h in
       let q = went_on _ _ _ ts p.2 in
-      let all = tests_only m (at + 3) ys ts q.2 in
+      let all = values_only Test m (at + 3) ys ts q.2 in
       let size : length (flat_map k.bytes ts) ≡ m * w = spelled k law ts all.within.sound ∙ ap (λ n. n * w) all.within.long in
       let n : y * 256 + z ≡ m * w = is (y * 256 + z) (m * w) q.0 in
       let e1 : x ≡ 3 = is x 3 p.0 in

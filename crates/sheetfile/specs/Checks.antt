@@ -1,6 +1,6 @@
 -- Every check of a sheet file in its order, with the number, place and layer that it refuses by.
 -- A check is looked at only where all before it hold, so what stands behind a failing one does not matter.
-use Rattle.std.specs.Prelude.{◌≡◌, ℕ, zero, suc, ◌+◌, ◌*◌, Bool, true, false, cond, not, List, [], ◌∷◌, ◌++◌, length, take, drop, is_some, ◌==◌, nat_le, slice_index}
+use Rattle.std.specs.Prelude.{◌≡◌, ℕ, zero, suc, ◌+◌, ◌*◌, Bool, true, false, if◌then◌else◌, not, List, [], ◌∷◌, ◌++◌, length, take, drop, is_some, ◌==◌, nat_le, slice_index}
 use Rattle.kinds.specs.Bytes.{word}
 use Rattle.kinds.specs.Codings.{Coding}
 use Rattle.sheetfile.specs.Card.{Told}
@@ -56,14 +56,14 @@ signature_checks k room heads least used at body =
 -- the signature fields that are left, of which so many more may come
 unfoldable pub signatures_checks : {T : Type 0} → Coding T → ℕ → ℕ → ℕ → ℕ → ℕ → ℕ → List ℕ → List Check
 signatures_checks k room heads zero least used at xs =
-    cond (length xs == 0) [] (field_checks signature_tag at xs ++ or_fault false 18 at 3 ∷ [])
+    if length xs == 0 then [] else field_checks signature_tag at xs ++ or_fault false 18 at 3 ∷ []
 signatures_checks k room heads (suc left) least used at xs =
     let size = word xs 1 in
     let body = take size (drop 3 xs) in
-    cond (length xs == 0) []
-    (field_checks signature_tag at xs
+    if length xs == 0 then []
+    else field_checks signature_tag at xs
     ++ (signature_checks k room heads least used at body
-    ++ signatures_checks k room heads left (word body 0 + 1) (used + slice_index body 2 * slice_index body 3) (at + (3 + size)) (drop (3 + size) xs)))
+    ++ signatures_checks k room heads left (word body 0 + 1) (used + slice_index body 2 * slice_index body 3) (at + (3 + size)) (drop (3 + size) xs))
 
 -- the head field, at least one signature, the signatures
 unfoldable pub sheet_checks : {T : Type 0} → ℕ → Coding T → ℕ → List ℕ → List Check

@@ -1,8 +1,10 @@
 pub mod Limits
 pub mod Card
+pub mod Texts
 pub mod Sheets
 pub mod Encoding
 pub mod Outcomes
+pub mod Values
 pub mod Reading
 pub mod Fields
 pub mod Checks

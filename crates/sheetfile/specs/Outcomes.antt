@@ -1,5 +1,5 @@
 -- What reading a part of a file comes to: the tests read, in order, and then what the part says, or a fault.
-use Rattle.std.specs.Prelude.{Bool, cond, List, [], ◌++◌, Ok, Err, Result}
+use Rattle.std.specs.Prelude.{Bool, if◌then◌else◌, List, [], ◌++◌, Ok, Err, Result}
 use Rattle.sheetfile.specs.declared.fault.Fault.{Fault}
 
 pub record Outcome (T A : Type 0) : Type 0 where
@@ -16,7 +16,7 @@ give a = record { tests = []; end = Ok a }
 
 -- where the test holds, this fault; else what follows
 abbrev pub check : {T A : Type 0} → Bool → Fault → Outcome T A → Outcome T A
-check b e r = cond b (stop e) r
+check b e r = if b then stop e else r
 
 abbrev pub on : {T A B : Type 0} → Result A Fault → (A → Outcome T B) → Outcome T B
 on (Ok a) f = f a

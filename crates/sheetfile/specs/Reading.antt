@@ -1,5 +1,5 @@
 -- The reading rule: its checks in their order, over what is left of the bytes and the place where that stands.
-use Rattle.std.specs.Prelude.{ℕ, zero, suc, ◌+◌, ◌*◌, cond, not, List, [], ◌∷◌, length, take, drop, Some, None, Ok, Err, Option, Result, ◌==◌, nat_lt, slice_index}
+use Rattle.std.specs.Prelude.{ℕ, zero, suc, ◌+◌, ◌*◌, if◌then◌else◌, not, List, [], ◌∷◌, length, take, drop, Ok, Err, Result, ◌==◌, nat_lt, slice_index}
 use Rattle.kinds.specs.Bytes.{word}
 use Rattle.kinds.specs.Codings.{Coding}
 use Rattle.sheetfile.specs.declared.fault.Fault.{Fault}
@@ -9,24 +9,19 @@ use Rattle.sheetfile.specs.Limits.{most_heads, most_signatures, least_frames, mo
 use Rattle.sheetfile.specs.Sheets.{Signature, Sheet, test_count}
 use Rattle.sheetfile.specs.Encoding.{head_tag, signature_tag, track_tag}
 use Rattle.sheetfile.specs.Outcomes.{Outcome, stop, give, check, on, into, chain}
+use Rattle.sheetfile.specs.Values.{values_read}
 
 -- the body of the field with this tag that xs begins with
 abbrev pub field_read : ℕ → ℕ → List ℕ → Result (List ℕ) Fault
 field_read tag at xs =
-    cond (nat_lt (length xs) 3) (Err (fault Cut at))
-    (cond (nat_lt (length xs) (3 + word xs 1)) (Err (fault Cut at))
-    (cond (slice_index xs 0 == tag) (Ok (take (word xs 1) (drop 3 xs))) (Err (fault Tag at))))
-
--- one test, and the tests that follow it
-abbrev pub one : {T : Type 0} → Option T → ℕ → Outcome T (List T) → Outcome T (List T)
-one None at r = stop (fault Test at)
-one (Some t) at r = record { tests = t ∷ r.tests; end = (into (λ ts. t ∷ ts) r).end }
+    if nat_lt (length xs) 3 then Err (fault Cut at)
+    else if nat_lt (length xs) (3 + word xs 1) then Err (fault Cut at)
+    else if slice_index xs 0 == tag then Ok (take (word xs 1) (drop 3 xs))
+    else Err (fault Tag at)
 
 -- so many tests
-unfoldable pub tests_read : {T : Type 0} → Coding T → ℕ → ℕ → List ℕ → Outcome T (List T)
-tests_read k zero at xs = give []
-tests_read k (suc m) at xs =
-    one (k.reads (take k.width xs)) at (tests_read k m (at + k.width) (drop k.width xs))
+abbrev pub tests_read : {T : Type 0} → Coding T → ℕ → ℕ → List ℕ → Outcome T (List T)
+tests_read k m at xs = values_read Test k m at xs
 
 -- a track of m tests
 abbrev pub track_read : {T : Type 0} → Coding T → ℕ → ℕ → List ℕ → Outcome T (List T)
@@ -60,13 +55,13 @@ signature_read k room heads least used at body =
 -- the signatures that are left, of which so many more may come
 unfoldable pub signatures_read : {T : Type 0} → Coding T → ℕ → ℕ → ℕ → ℕ → ℕ → ℕ → List ℕ → Outcome T (List (Signature T))
 signatures_read k room heads zero least used at xs =
-    cond (length xs == 0) (give []) (on (field_read signature_tag at xs) (λ body. stop (fault Thirteenth at)))
+    if length xs == 0 then give [] else on (field_read signature_tag at xs) (λ body. stop (fault Thirteenth at))
 signatures_read k room heads (suc left) least used at xs =
-    cond (length xs == 0) (give [])
-    (on (field_read signature_tag at xs) (λ body.
+    if length xs == 0 then give []
+    else on (field_read signature_tag at xs) (λ body.
     chain (signature_read k room heads least used at body) (λ s.
     into (λ ss. s ∷ ss)
-    (signatures_read k room heads left (s.name + 1) (used + test_count s) (at + (3 + length body)) (drop (3 + length body) xs)))))
+    (signatures_read k room heads left (s.name + 1) (used + test_count s) (at + (3 + length body)) (drop (3 + length body) xs))))
 
 -- the sheet in these bytes, of the kind with this code and these tests, for a store with room for so many
 unfoldable pub rule : {T : Type 0} → ℕ → Coding T → ℕ → List ℕ → Outcome T (Sheet T)

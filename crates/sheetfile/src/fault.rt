@@ -1,46 +1,49 @@
 // What is wrong with a file, and where.
-ghost use Rattle.std.specs.Prelude.{◌≡◌};
-ghost use Rattle.sheetfile.specs.Card.{number, layer, layer_number};
+ghost use Rattle.std.specs.Prelude.{◌≡◌, Some};
+ghost use Rattle.sheetfile.specs.Card.{number, layer, layer_number, told};
+ghost use Rattle.sheetfile.specs.Texts.{cause_text, fault_text};
 
-// What is wrong.
+use std::fmt;
+
+// What is wrong, and its number on the fault card.
 #[derive(Clone, Copy, PartialEq, Eq, Debug)]
 pub enum Cause {
     // under three bytes are left, or the body goes past the end
-    Cut,
+    Cut = 10,
     // not the tag that is due
-    Tag,
+    Tag = 11,
     // not the length that is due
-    Length,
+    Length = 12,
     // another kind's code
-    Kind,
+    Kind = 13,
     // heads not 1 to 8
-    Heads,
+    Heads = 14,
     // tracks not 1 to the number of heads
-    Tracks,
+    Tracks = 15,
     // frames not 1 to 64
-    Frames,
+    Frames = 16,
     // no sound test
-    Test,
+    Test = 17,
     // a signature too many
-    Thirteenth,
+    Thirteenth = 18,
     // no signature
-    Bare,
+    Bare = 19,
     // a name not above the one before
-    Name,
+    Name = 20,
     // more tests than the store holds
-    Store,
+    Store = 21,
     // a frame or a gap too many in a run
-    LongRun,
+    LongRun = 22,
     // an unlawful reading in a run
-    Reading,
+    Reading = 31,
 }
 
-// The layer of the file at which a fault is found.
+// The layer of the file at which a fault is found, and its number.
 #[derive(Clone, Copy, PartialEq, Eq, Debug)]
 pub enum Layer {
-    Bytes,
-    Fields,
-    Sheet,
+    Bytes = 1,
+    Fields = 2,
+    Sheet = 3,
 }
 
 // What is wrong, and the place of the byte that shows it, from 0.
@@ -55,22 +58,7 @@ impl Cause {
     pub fn number(self) -> u8
         ensures { result ≡ number self }
     {
-        match self {
-            Cause::Cut => 10,
-            Cause::Tag => 11,
-            Cause::Length => 12,
-            Cause::Kind => 13,
-            Cause::Heads => 14,
-            Cause::Tracks => 15,
-            Cause::Frames => 16,
-            Cause::Test => 17,
-            Cause::Thirteenth => 18,
-            Cause::Bare => 19,
-            Cause::Name => 20,
-            Cause::Store => 21,
-            Cause::LongRun => 22,
-            Cause::Reading => 31,
-        }
+        self as u8
     }
 
     pub fn layer(self) -> Layer
@@ -101,14 +89,48 @@ impl Cause {
 }
 
 impl Layer {
-    // 1 bytes, 2 fields, 3 sheet.
     pub fn number(self) -> u8
         ensures { result ≡ layer_number self }
     {
-        match self {
-            Layer::Bytes => 1,
-            Layer::Fields => 2,
-            Layer::Sheet => 3,
-        }
+        self as u8
+    }
+}
+
+// What is wrong, in words that the place can follow.
+impl fmt::Display for Cause {
+    ghost output = { λ cause. Some (cause_text cause) };
+
+    fn fmt<W: fmt::Write>(&self, f: &mut fmt::Formatter<W>) -> fmt::Result {
+        f.write_str(match self {
+            Cause::Cut =>
+                "cut: a field has under 3 bytes, or its body goes past the end; the field starts",
+            Cause::Tag => "tag: not the tag that is due; it stands",
+            Cause::Length => "length: not the length that is due; the field starts",
+            Cause::Kind => "kind: the code of another kind; it stands",
+            Cause::Heads => "heads: the number of heads is not 1 to 8; it stands",
+            Cause::Tracks => "tracks: the number of tracks is not 1 to that of heads; it stands",
+            Cause::Frames => "frames: the length in frames is not 1 to 64; it stands",
+            Cause::Test => "test: no sound test; it begins",
+            Cause::Thirteenth =>
+                "thirteenth: a sheet has at most 12 signatures; the next one starts",
+            Cause::Bare => "bare: the sheet has no signature; it ends",
+            Cause::Name => "name: not above the name before it; it stands",
+            Cause::Store =>
+                "store: the sheet has more tests than the store holds; the signature starts",
+            Cause::LongRun => "long run: frame or gap 1,000,000; the field starts",
+            Cause::Reading => "reading: an unlawful reading; it begins",
+        })
+    }
+}
+
+// The figures of the fault: `fault NUMBER LAYER PLACE`.
+impl fmt::Display for Fault {
+    ghost output = { λ fault. Some (fault_text (told fault)) };
+
+    fn fmt<W: fmt::Write>(&self, f: &mut fmt::Formatter<W>) -> fmt::Result {
+        let number = self.cause.number();
+        let layer = self.cause.layer().number();
+        let place = self.place;
+        write!(f, "fault {number} {layer} {place}")
     }
 }

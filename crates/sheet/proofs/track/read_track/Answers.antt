@@ -1,6 +1,6 @@
-use Rattle.std.proofs.Common.{◌≡◌, ◌+◌, ◌*◌, drop, Ok, sym, ap, ◌∙◌}
+use Rattle.std.proofs.Common.{◌≡◌, ◌+◌, ◌*◌, drop, sym, ap, ◌∙◌}
 use Rattle.std.proofs.lemmas.Result.{err_from_is_err_and}
-use Rattle.sheetfile.specs.Fields.{part, track_in}
+use Rattle.sheetfile.specs.Fields.{track_in}
 use Rattle.sheetfile.specs.Outcomes.{bare}
 use Rattle.sheetfile.specs.Reading.{tests_read}
 use Rattle.sheet.proofs.Puts.{refused, left_is}
@@ -15,14 +15,13 @@ returns-in_err-tests g c =
     (c.in_err-tests.ensures ∙ ap (λ w. track_in c.args.at (c.args.frames * w) c.args.rest.now) c.test_width.ensures) in
     rw (p.1, p.2) (refused c.args.from c.args.store.now (ap bare bad))
 
-pub returns-in-Track : goal.returns-in-Track
-returns-in-Track g c =
+pub returns : goal.returns
+returns g c =
     let k = g.K.Kind.facts.tests in
     let m = c.args.frames in
-    let good = track_good k m c.args.at c.args.rest.now c.requires.long c.in-Track.tests.now c.in-Track.place
-    (ap (λ f. Ok (part f)) (sym c.in-Track.is) ∙ c.in_ok-tests.ensures ∙ ap (λ w. track_in c.args.at (m * w) c.args.rest.now) c.test_width.ensures) in
-    let own : tests_read k m (c.in-Track.place + 3) c.in-Track.tests.now ≡ tests_read k m (c.args.at + 3) (drop 3 c.args.rest.now) =
-    ap (λ p. tests_read k m (p + 3) c.in-Track.tests.now) good.1
-    ∙ ap (tests_read k m (c.args.at + 3)) good.0
+    let good = track_good k m c.args.at c.args.rest.now c.requires.long c.in_ok-tests.tests.now c.args.at
+    (c.in_ok-tests.ensures ∙ ap (λ w. track_in c.args.at (m * w) c.args.rest.now) c.test_width.ensures) in
+    let own : tests_read k m (c.args.at + 3) c.in_ok-tests.tests.now ≡ tests_read k m (c.args.at + 3) (drop 3 c.args.rest.now) =
+    ap (tests_read k m (c.args.at + 3)) good.0
     ∙ tests_own k m (c.args.at + 3) (drop 3 c.args.rest.now) in
     left_is (ap bare (good.2 ∙ sym own)) c.read_tests.ensures

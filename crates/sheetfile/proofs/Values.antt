@@ -3,7 +3,7 @@ use Rattle.std.proofs.Common.{◌≡◌, ℕ, suc, ◌+◌, List, [], take, drop
 use Rattle.kinds.specs.Codings.{Coding}
 use Rattle.sheetfile.specs.declared.fault.Cause.{Cause}
 use Rattle.sheetfile.specs.Outcomes.{give}
-use Rattle.runfile.specs.Values.{one_value, values_read}
+use Rattle.sheetfile.specs.Values.{one_value, values_read}
 
 module _ {T : Type 0} (cause : Cause) (k : Coding T) where
   pub values_some : (left less at : ℕ) (xs : List ℕ) → left ≡ suc less → values_read cause k left at xs ≡ one_value cause (k.reads (take k.width xs)) at (values_read cause k less (at + k.width) (drop k.width xs))
