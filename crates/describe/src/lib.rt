@@ -3,7 +3,6 @@
 
 mod file;
 mod text;
-mod words;
 
 pub use file::print_sheet;
 pub use text::sheet_text;

@@ -1,11 +1,9 @@
 // The text of a sheet file.
-ghost use Rattle.std.specs.Prelude.{◌≡◌, length, IfOk, string_bytes};
+ghost use Rattle.std.specs.Prelude.{IfOk, string_bytes};
 ghost use Rattle.kinds.specs.Known.{picked};
-ghost use Rattle.sheetfile.specs.Card.{told};
 ghost use Rattle.sheetfile.specs.Reading.{rule};
-ghost use Rattle.describe.specs.Texts.{fault_line, Begins, Tells, TellsFile};
+ghost use Rattle.describe.specs.Texts.{RefusedText, Tells, TellsFile};
 
-use crate::words::words;
 use kinds::band::Band;
 use kinds::climate::Climate;
 use kinds::kind::Kind;
@@ -57,26 +55,13 @@ fn sheet_words<T: Display>(
     Ok(out)
 }
 
-// The line of a fault: `fault NUMBER LAYER PLACE`.
-fn fault_figures(heap: Global, fault: &Fault) -> Result<String, AllocError>
-    ensures { IfOk result (λ t. string_bytes t ≡ fault_line (told fault.now)) }
-{
-    let number = fault.cause.number();
-    let layer = fault.cause.layer().number();
-    let place = fault.place;
-    format!(in heap; "fault {number} {layer} {place}\n")
-}
-
 // What is wrong: a line of figures, and a line of words.
 fn fault_words(heap: Global, fault: &Fault) -> Result<String, AllocError>
-    ensures { IfOk result (λ t. Begins (fault_line (told fault.now)) (string_bytes t)) }
+    ensures { IfOk result (λ t. RefusedText fault.now (string_bytes t)) }
 {
-    let mut out = fault_figures(heap, fault)?;
-    out.push_str(words(fault.cause))?;
+    let cause = fault.cause;
     let place = fault.place;
-    let at = format!(in heap; " at byte {place}\n")?;
-    out.push_str(at.as_str())?;
-    Ok(out)
+    format!(in heap; "{fault}\n{cause} at byte {place}\n")
 }
 
 // What the file says when it is read as this kind's, or what is wrong with it.
