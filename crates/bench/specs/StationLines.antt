@@ -1,6 +1,6 @@
 -- The customer's worked lines that concern a station, as facts about the definitions that its contracts use.
 use Rattle.std.specs.Prelude.{◌≡◌, ℕ, zero, suc, Bool, false, ◌||◌, List, [], ◌∷◌, ◌++◌, take, Some, None, Err, Option, ◌==◌, slice_index_or}
-use Rattle.kinds.specs.declared.span.MoistureSpan.{MoistureSpan}
+use Rattle.kinds.specs.declared.scale.Interval.{Interval}
 use Rattle.kinds.specs.Kinds.{Facts}
 use Rattle.kinds.specs.Bands.{band_facts}
 use Rattle.kinds.specs.Spans.{span_facts}
@@ -36,7 +36,7 @@ abbrev pub demo_after : ℕ → Verdict
 demo_after n = verdict_after band_facts 2 demo_signature (take n demo_calls)
 
 -- a signature of one track and one frame: 600 to 750
-abbrev pub one_span : Signature MoistureSpan
+abbrev pub one_span : Signature (Interval ℕ)
 one_span = record { name = 1; frames = 1; tracks = (record { low = 600; high = 750 } ∷ []) ∷ [] }
 
 -- feeds of n frames, each with its own number, from 1 on, as its one reading

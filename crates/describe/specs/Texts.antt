@@ -1,22 +1,27 @@
 -- How the text of a sheet file begins where the file is refused.
-use Rattle.std.specs.Prelude.{◌≡◌, ℕ, List, [], ◌∷◌, ◌++◌, Ok, Err, decimal, Result}
+use Rattle.std.specs.Prelude.{◌≡◌, ℕ, List, [], ◌∷◌, ◌++◌, Ok, Err, codes, decimal, Result}
 use Rattle.kinds.specs.Bands.{band_facts}
 use Rattle.kinds.specs.Spans.{span_facts}
 use Rattle.kinds.specs.Climates.{climate_facts}
 use Rattle.kinds.specs.declared.known.KnownKind.{KnownKind}
 use Rattle.kinds.specs.declared.known.KnownKind.TheVariants.{Band, Span, Climate}
 use Rattle.sheetfile.specs.declared.fault.Fault.{Fault}
-use Rattle.sheetfile.specs.Card.{Told, told}
+use Rattle.sheetfile.specs.Card.{told}
+pub use Rattle.sheetfile.specs.Texts.{fault_line}
+use Rattle.sheetfile.specs.Texts.{cause_text, fault_text}
 use Rattle.sheetfile.specs.Reading.{rule}
 
--- `fault `, number, blank, layer, blank, place, newline
-abbrev pub fault_line : Told → List ℕ
-fault_line t =
-    (102 ∷ 97 ∷ 117 ∷ 108 ∷ 116 ∷ 32 ∷ []) ++ (decimal t.number ++ ((32 ∷ []) ++ (decimal t.layer ++ ((32 ∷ []) ++ (decimal t.place ++ (10 ∷ []))))))
+-- behind the fault's line: what is wrong, and where
+abbrev pub reason_line : Fault → List ℕ
+reason_line e = cause_text e.cause ++ (codes " at byte " ++ (decimal e.place ++ (10 ∷ [])))
 
 -- the text has this at its front
 abbrev pub Begins : List ℕ → List ℕ → Type 0
 Begins front text = (rest : List ℕ) × (text ≡ front ++ rest)
+
+-- the whole text of a fault
+abbrev pub RefusedText : Fault → List ℕ → Type 0
+RefusedText e text = text ≡ fault_text (told e) ++ (10 ∷ reason_line e)
 
 -- after a fault the text begins with its line
 abbrev pub Tells : {A : Type 0} → Result A Fault → List ℕ → Type 0

@@ -1,10 +1,8 @@
 // A sheet file in words: what it says, or what is wrong with it and where.
 #![tactic(auto)]
 
-mod figures;
 mod file;
 mod text;
-mod words;
 
 pub use file::print_sheet;
 pub use text::sheet_text;

@@ -1,17 +1,14 @@
 // The text of a sheet file.
-ghost use Rattle.std.specs.Prelude.{◌≡◌, length, IfOk, string_bytes};
+ghost use Rattle.std.specs.Prelude.{IfOk, string_bytes};
 ghost use Rattle.kinds.specs.Known.{picked};
-ghost use Rattle.sheetfile.specs.Card.{told};
 ghost use Rattle.sheetfile.specs.Reading.{rule};
-ghost use Rattle.describe.specs.Texts.{fault_line, Begins, Tells, TellsFile};
+ghost use Rattle.describe.specs.Texts.{RefusedText, Tells, TellsFile};
 
-use crate::figures::Figures;
-use crate::words::words;
-use kinds::band::{Band, BandSet};
-use kinds::climate::{Climate, ClimateTest, TemperatureSpan};
+use kinds::band::Band;
+use kinds::climate::Climate;
 use kinds::kind::Kind;
 use kinds::known::KnownKind;
-use kinds::span::{MoistureSpan, Span};
+use kinds::span::Span;
 use sheet::entry::Entry;
 use sheet::plan::Plan;
 use sheet::read_sheet;
@@ -19,10 +16,10 @@ use sheetfile::fault::Fault;
 use sheetfile::limits::MOST_TESTS;
 use std::alloc::{AllocError, Global};
 use std::fmt;
-use std::fmt::Write;
+use std::fmt::{Display, Write};
 
 // The signature's figures, and a line for each of its tests: tracks from 0, frames from 1, the oldest first.
-fn put_signature<T: Figures>(out: &mut String, entry: &Entry, store: &[T]) -> fmt::Result {
+fn put_signature<T: Display>(out: &mut String, entry: &Entry, store: &[T]) -> fmt::Result {
     let name = entry.name;
     let tracks = entry.tracks;
     let frames = entry.frames as usize;
@@ -36,23 +33,21 @@ fn put_signature<T: Figures>(out: &mut String, entry: &Entry, store: &[T]) -> fm
     for (i, test) in tests.iter().enumerate() {
         let track = i / frames;
         let frame = i % frames + 1;
-        write!(out, "  track {track}, frame {frame}: ")?;
-        test.put(out)?;
-        writeln!(out)?;
+        writeln!(out, "  track {track}, frame {frame}: {test}")?;
     }
     Ok(())
 }
 
 // What a sheet that was read says.
-fn sheet_words<T: Figures>(
+fn sheet_words<T: Display>(
     heap: Global,
-    kind: &str,
+    known: KnownKind,
     plan: &Plan,
     store: &[T],
 ) -> Result<String, fmt::Error> {
     let mut out = String::new(heap);
     let heads = plan.heads();
-    writeln!(out, "kind {kind}")?;
+    writeln!(out, "kind {known}")?;
     writeln!(out, "heads {heads}")?;
     for entry in plan.entries() {
         put_signature(&mut out, entry, store)?;
@@ -60,47 +55,31 @@ fn sheet_words<T: Figures>(
     Ok(out)
 }
 
-// The line of a fault: `fault NUMBER LAYER PLACE`.
-fn fault_figures(heap: Global, fault: &Fault) -> Result<String, AllocError>
-    ensures { IfOk result (λ t. string_bytes t ≡ fault_line (told fault.now)) }
-{
-    let number = fault.cause.number();
-    let layer = fault.cause.layer().number();
-    let place = fault.place;
-    format!(in heap; "fault {number} {layer} {place}\n")
-}
-
 // What is wrong: a line of figures, and a line of words.
 fn fault_words(heap: Global, fault: &Fault) -> Result<String, AllocError>
-    ensures { IfOk result (λ t. Begins (fault_line (told fault.now)) (string_bytes t)) }
+    ensures { IfOk result (λ t. RefusedText fault.now (string_bytes t)) }
 {
-    let mut out = fault_figures(heap, fault)?;
-    out.push_str(words(fault.cause))?;
+    let cause = fault.cause;
     let place = fault.place;
-    let at = format!(in heap; " at byte {place}\n")?;
-    out.push_str(at.as_str())?;
-    Ok(out)
+    format!(in heap; "{fault}\n{cause} at byte {place}\n")
 }
 
 // What the file says when it is read as this kind's, or what is wrong with it.
 fn file_words<K: Kind>(
     heap: Global,
     kind: K,
-    named: &str,
+    known: KnownKind,
     bytes: &[u8],
-    store: &mut [K::Test],
 ) -> Result<String, fmt::Error>
 where
-    K::Test: Figures,
-    ensures { IfOk result (λ t. Tells (rule K.facts.code K.facts.tests (length store.old) bytes.now).end (string_bytes t)) }
+    K::Test: Default + Display,
+    ensures { IfOk result (λ t. Tells (rule K.facts.code K.facts.tests 6144 bytes.now).end (string_bytes t)) }
 {
     let mut plan = Plan::empty();
-    match read_sheet(kind, bytes, &mut plan, store) {
-        Ok(()) => sheet_words(heap, named, &plan, store),
-        Err(fault) => match fault_words(heap, &fault) {
-            Ok(text) => Ok(text),
-            Err(_) => Err(fmt::Error),
-        },
+    let mut store = vec![in heap; K::Test::default(); MOST_TESTS]?;
+    match read_sheet(kind, bytes, &mut plan, store.as_mut_slice()) {
+        Ok(()) => sheet_words(heap, known, &plan, store.as_slice()),
+        Err(fault) => Ok(fault_words(heap, &fault)?),
     }
 }
 
@@ -108,24 +87,10 @@ where
 pub fn sheet_text(heap: Global, bytes: &[u8]) -> Result<String, fmt::Error>
     ensures { IfOk result (λ t. TellsFile (picked bytes.now) bytes.now (string_bytes t)) }
 {
-    match KnownKind::of_sheet(bytes) {
-        KnownKind::Band => {
-            let mut store = [BandSet { bits: 0 }; MOST_TESTS];
-            file_words(heap, Band, "band", bytes, &mut store)
-        }
-        KnownKind::Span => {
-            let mut store = [MoistureSpan { low: 0, high: 0 }; MOST_TESTS];
-            file_words(heap, Span, "span", bytes, &mut store)
-        }
-        KnownKind::Climate => {
-            let moisture = MoistureSpan { low: 0, high: 0 };
-            let temperature = TemperatureSpan { low: 0, high: 0 };
-            let blank = ClimateTest {
-                moisture,
-                temperature,
-            };
-            let mut store = [blank; MOST_TESTS];
-            file_words(heap, Climate, "climate", bytes, &mut store)
-        }
+    let known = KnownKind::of_sheet(bytes);
+    match known {
+        KnownKind::Band => file_words(heap, Band, known, bytes),
+        KnownKind::Span => file_words(heap, Span, known, bytes),
+        KnownKind::Climate => file_words(heap, Climate, known, bytes),
     }
 }

@@ -2,7 +2,6 @@
 // and prints what each order sees, and whether every verdict agrees.
 #![tactic(auto)]
 
-use anyhow::anyhow;
 use ginfiles::sheet_bytes;
 use replug::text::replug_text;
 use replug::trouble::Trouble;
@@ -15,13 +14,8 @@ fn show(rt: &HostRuntime) -> anyhow::Result<()> {
     rt.stdin().read_to_end(&mut run)?;
     match replug_text(rt.alloc(), sheet.as_slice(), run.as_slice()) {
         Ok(text) => rt.stdout().write_all(text.as_bytes())?,
-        Err(Trouble::Fault(fault)) => {
-            let number = fault.cause.number();
-            let layer = fault.cause.layer().number();
-            let place = fault.place;
-            println!(rt; "fault {number} {layer} {place}")?;
-        }
-        Err(Trouble::Text) => return Err(anyhow!("no memory for the text")),
+        Err(Trouble::Fault(fault)) => println!(rt; "{fault}")?,
+        Err(trouble) => return Err(trouble.into()),
     }
     Ok(())
 }

@@ -1,5 +1,7 @@
 pub mod Bytes
 pub mod Codings
+pub mod Scales
+pub mod ScalesLemmas
 pub mod Kinds
 pub mod Bands
 pub mod Spans

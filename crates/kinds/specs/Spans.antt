@@ -1,37 +1,28 @@
--- The span kind: a reading is moisture in hundredths of a percent, a test is a range of it.
-use Rattle.std.specs.Prelude.{ℕ, ◌+◌, Bool, ◌&&◌, List, ◌++◌, nat_le}
-use Rattle.kinds.specs.declared.span.MoistureSpan.{MoistureSpan}
+-- The span kind: a reading is moisture in hundredths of a percent, a test is an interval of it.
+use Rattle.std.specs.Prelude.{ℕ, ◌/◌, ◌%◌, List, ◌++◌, nat_le, codes, decimal}
+use Rattle.kinds.specs.declared.scale.Interval.{Interval}
 use Rattle.kinds.specs.Bytes.{pair, word}
 use Rattle.kinds.specs.Codings.{Coding, fixed}
 use Rattle.kinds.specs.Kinds.{Facts}
+use Rattle.kinds.specs.Scales.{Scaled, lawful, sound, within, interval_bytes, interval_at}
 
 -- 100.00 percent
 abbrev pub most_moisture : ℕ
 most_moisture = 10000
 
-abbrev pub moisture_lawful : ℕ → Bool
-moisture_lawful x = nat_le x most_moisture
+-- as `6.05 %`
+abbrev pub percent_text : ℕ → List ℕ
+percent_text n = decimal (n / 100) ++ (codes "." ++ (decimal (n / 10 % 10) ++ (decimal (n % 10) ++ codes " %")))
 
--- low, then high, both lawful and in order
-abbrev pub span_sound : MoistureSpan → Bool
-span_sound t = nat_le t.low t.high && moisture_lawful t.high
+-- moistures, from 0
+abbrev pub moistures : Scaled ℕ
+moistures = record { name = codes "moisture"; figures = percent_text; le = nat_le; least = 0; most = most_moisture; bits = λ n. n; value = λ w. w }
 
--- from low to high, both ends within
-abbrev pub in_span : MoistureSpan → ℕ → Bool
-in_span t x = nat_le t.low x && nat_le x t.high
-
-abbrev pub span_bytes : MoistureSpan → List ℕ
-span_bytes t = pair t.low ++ pair t.high
-
--- the span whose low end stands at place i and its high end behind it
-abbrev pub span_at : List ℕ → ℕ → MoistureSpan
-span_at bs i = record { low = word bs i; high = word bs (i + 2) }
-
-abbrev pub span_tests : Coding MoistureSpan
-span_tests = fixed 4 span_sound span_bytes (λ bs. span_at bs 0)
+abbrev pub span_tests : Coding (Interval ℕ)
+span_tests = fixed 4 (sound moistures) (interval_bytes moistures) (λ bs. interval_at moistures bs 0)
 
 abbrev pub span_readings : Coding ℕ
-span_readings = fixed 2 moisture_lawful pair (λ bs. word bs 0)
+span_readings = fixed 2 (lawful moistures) pair (λ bs. word bs 0)
 
-abbrev pub span_facts : Facts ℕ MoistureSpan
-span_facts = record { code = 2; tests = span_tests; readings = span_readings; passes = in_span }
+abbrev pub span_facts : Facts ℕ (Interval ℕ)
+span_facts = record { code = 2; tests = span_tests; readings = span_readings; passes = within moistures }

@@ -6,6 +6,7 @@ ghost use Rattle.std.proofs.Common.{rules};
 
 use crate::buffer::{NoRoom, write_front};
 use crate::kind::Kind;
+use std::fmt;
 
 // bands are numbered 0 to 15
 pub const MOST_BAND: u8 = 15;
@@ -17,6 +18,18 @@ pub struct Band;
 #[derive(Clone, Copy, Default, PartialEq, Eq, Debug)]
 pub struct BandSet {
     pub bits: u16,
+}
+
+// As `bands 1, 4`.
+impl fmt::Display for BandSet {
+    fn fmt<W: fmt::Write>(&self, f: &mut fmt::Formatter<W>) -> fmt::Result {
+        let bands = (0..=MOST_BAND).filter(|band| (self.bits >> *band) % 2 == 1);
+        for (i, band) in bands.enumerate() {
+            let gap = if i == 0 { "bands " } else { ", " };
+            write!(f, "{gap}{band}")?;
+        }
+        Ok(())
+    }
 }
 
 impl Kind for Band {

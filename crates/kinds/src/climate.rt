@@ -1,12 +1,14 @@
 // The climate kind: a head tells moisture and air temperature, and a test is a range of each.
-ghost use Rattle.std.specs.Prelude.{◌≡◌, refl, List};
-ghost use Rattle.kinds.specs.Climates.{climate_facts, temperatures_sound, in_temperatures, temperature_lawful};
+ghost use Rattle.std.specs.Prelude.{◌≡◌, refl, Some};
+ghost use Rattle.kinds.specs.Climates.{degrees_text, climate_text, climate_facts, temperatures, least_temperature, most_temperature};
 ghost use Rattle.kinds.specs.ClimatesLemmas.{climate_tests_lawful, climate_readings_lawful};
 ghost use Rattle.std.proofs.Common.{rules};
 
 use crate::buffer::{NoRoom, write_front};
 use crate::kind::Kind;
-use crate::span::{MOST_MOISTURE, MoistureSpan};
+use crate::scale::{Interval, Scale};
+use crate::span::MoistureSpan;
+use std::fmt;
 
 // temperature in tenths of a degree Celsius: −40.0 to 250.0 degrees
 pub const LEAST_TEMPERATURE: i16 = -400;
@@ -23,12 +25,62 @@ pub struct ClimateReading {
     pub temperature: i16,
 }
 
-// Temperature from low to high, both ends within.
-#[derive(Clone, Copy, Default, PartialEq, Eq, Debug)]
-pub struct TemperatureSpan {
-    pub low: i16,
-    pub high: i16,
+// Tenths of a degree Celsius.
+#[derive(Clone, Copy)]
+pub struct Degrees(i16);
+
+// As `-40.0 C`.
+impl fmt::Display for Degrees {
+    ghost output = { λ d. Some (degrees_text d.0) };
+
+    fn fmt<W: fmt::Write>(&self, f: &mut fmt::Formatter<W>) -> fmt::Result {
+        let sign = if self.0 < 0 { "-" } else { "" };
+        let size = self.0.unsigned_abs();
+        let whole = size / 10;
+        let tenths = size % 10;
+        write!(f, "{sign}{whole}.{tenths} C")
+    }
 }
+
+// Temperature in tenths of a degree Celsius.
+impl Scale for i16 {
+    type Figures = Degrees;
+
+    const LEAST: i16 = LEAST_TEMPERATURE;
+
+    const MOST: i16 = MOST_TEMPERATURE;
+
+    ghost LEAST = { least_temperature };
+
+    ghost MOST = { most_temperature };
+
+    ghost scale = { temperatures };
+
+    ghost least_is = { refl };
+
+    ghost most_is = { refl };
+
+    ghost ordered = { Prim.search rules };
+
+    fn name() -> &'static str {
+        "temperature"
+    }
+
+    fn figures(self) -> Degrees {
+        Degrees(self)
+    }
+
+    fn of_bytes(bytes: [u8; 2]) -> i16 {
+        i16::from_be_bytes(bytes)
+    }
+
+    fn to_bytes(self) -> [u8; 2] {
+        self.to_be_bytes()
+    }
+}
+
+// Temperature from low to high, both ends within.
+pub type TemperatureSpan = Interval<i16>;
 
 #[derive(Clone, Copy, Default, PartialEq, Eq, Debug)]
 pub struct ClimateTest {
@@ -36,24 +88,16 @@ pub struct ClimateTest {
     pub temperature: TemperatureSpan,
 }
 
-impl TemperatureSpan {
-    pub fn is_sound(self) -> bool
-        ensures { result ≡ temperatures_sound self }
-    {
-        LEAST_TEMPERATURE <= self.low && self.low <= self.high && self.high <= MOST_TEMPERATURE
-    }
+impl fmt::Display for ClimateTest {
+    ghost output = { λ t. Some (climate_text t) };
 
-    pub fn holds(self, temperature: i16) -> bool
-        ensures { result ≡ in_temperatures self temperature }
-    {
-        self.low <= temperature && temperature <= self.high
+    fn fmt<W: fmt::Write>(&self, f: &mut fmt::Formatter<W>) -> fmt::Result {
+        let ClimateTest {
+            moisture,
+            temperature,
+        } = *self;
+        write!(f, "{moisture}, {temperature}")
     }
-}
-
-fn temperature_is_lawful(temperature: i16) -> bool
-    ensures { result ≡ temperature_lawful temperature }
-{
-    LEAST_TEMPERATURE <= temperature && temperature <= MOST_TEMPERATURE
 }
 
 impl Kind for Climate {
@@ -88,7 +132,7 @@ impl Kind for Climate {
     ghost readings = { climate_readings_lawful };
 
     fn is_lawful(self, reading: &ClimateReading) -> bool {
-        reading.moisture <= MOST_MOISTURE && temperature_is_lawful(reading.temperature)
+        reading.moisture.is_lawful() && reading.temperature.is_lawful()
     }
 
     fn is_sound(self, test: &ClimateTest) -> bool {
@@ -103,28 +147,17 @@ impl Kind for Climate {
         let [a, b, c, d, e, f, g, h] = bytes else {
             return None;
         };
-        let moisture = MoistureSpan {
-            low: u16::from_be_bytes([*a, *b]),
-            high: u16::from_be_bytes([*c, *d]),
-        };
-        let temperature = TemperatureSpan {
-            low: i16::from_be_bytes([*e, *f]),
-            high: i16::from_be_bytes([*g, *h]),
-        };
         let test = ClimateTest {
-            moisture,
-            temperature,
+            moisture: Interval::of_bytes([*a, *b, *c, *d]),
+            temperature: Interval::of_bytes([*e, *f, *g, *h]),
         };
         self.is_sound(&test).then_some(test)
     }
 
     fn write_test(self, test: &ClimateTest, buffer: &mut [u8]) -> Result<(), NoRoom> {
-        let [a, b] = test.moisture.low.to_be_bytes();
-        let [c, d] = test.moisture.high.to_be_bytes();
-        let [e, f] = test.temperature.low.to_be_bytes();
-        let [g, h] = test.temperature.high.to_be_bytes();
-        let bytes = [a, b, c, d, e, f, g, h];
-        write_front(&bytes, buffer)
+        let [a, b, c, d] = test.moisture.to_bytes();
+        let [e, f, g, h] = test.temperature.to_bytes();
+        write_front(&[a, b, c, d, e, f, g, h], buffer)
     }
 
     fn read_reading(self, bytes: &[u8]) -> Option<ClimateReading> {
@@ -132,16 +165,15 @@ impl Kind for Climate {
             return None;
         };
         let reading = ClimateReading {
-            moisture: u16::from_be_bytes([*a, *b]),
-            temperature: i16::from_be_bytes([*c, *d]),
+            moisture: u16::of_bytes([*a, *b]),
+            temperature: i16::of_bytes([*c, *d]),
         };
         self.is_lawful(&reading).then_some(reading)
     }
 
     fn write_reading(self, reading: &ClimateReading, buffer: &mut [u8]) -> Result<(), NoRoom> {
-        let [a, b] = reading.moisture.to_be_bytes();
-        let [c, d] = reading.temperature.to_be_bytes();
-        let bytes = [a, b, c, d];
-        write_front(&bytes, buffer)
+        let [a, b] = reading.moisture.to_bytes();
+        let [c, d] = reading.temperature.to_bytes();
+        write_front(&[a, b, c, d], buffer)
     }
 }

@@ -6,4 +6,5 @@ pub mod buffer;
 pub mod climate;
 pub mod kind;
 pub mod known;
+pub mod scale;
 pub mod span;

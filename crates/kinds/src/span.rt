@@ -1,11 +1,13 @@
 // The span kind: a head tells moisture in hundredths of a percent, and a test is a range of it.
-ghost use Rattle.std.specs.Prelude.{◌≡◌, refl, List};
-ghost use Rattle.kinds.specs.Spans.{span_facts, span_sound, in_span, span_bytes};
+ghost use Rattle.std.specs.Prelude.{◌≡◌, refl, Some};
+ghost use Rattle.kinds.specs.Spans.{moistures, span_facts, percent_text};
 ghost use Rattle.kinds.specs.SpansLemmas.{spans_lawful, moistures_lawful};
 ghost use Rattle.std.proofs.Common.{rules};
 
 use crate::buffer::{NoRoom, write_front};
 use crate::kind::Kind;
+use crate::scale::{Interval, Scale};
+use std::fmt;
 
 // 100.00 percent
 pub const MOST_MOISTURE: u16 = 10_000;
@@ -13,26 +15,61 @@ pub const MOST_MOISTURE: u16 = 10_000;
 #[derive(Clone, Copy)]
 pub struct Span;
 
+// Hundredths of a percent.
+#[derive(Clone, Copy)]
+pub struct Percent(u16);
+
+// As `6.05 %`.
+impl fmt::Display for Percent {
+    ghost output = { λ p. Some (percent_text p.0) };
+
+    fn fmt<W: fmt::Write>(&self, f: &mut fmt::Formatter<W>) -> fmt::Result {
+        let whole = self.0 / 100;
+        let tenths = self.0 / 10 % 10;
+        let hundredths = self.0 % 10;
+        write!(f, "{whole}.{tenths}{hundredths} %")
+    }
+}
+
+// Moisture in hundredths of a percent.
+impl Scale for u16 {
+    type Figures = Percent;
+
+    const LEAST: u16 = 0;
+
+    const MOST: u16 = MOST_MOISTURE;
+
+    ghost LEAST = { 0 };
+
+    ghost MOST = { 10000 };
+
+    ghost scale = { moistures };
+
+    ghost least_is = { refl };
+
+    ghost most_is = { refl };
+
+    ghost ordered = { Prim.search rules };
+
+    fn name() -> &'static str {
+        "moisture"
+    }
+
+    fn figures(self) -> Percent {
+        Percent(self)
+    }
+
+    fn of_bytes(bytes: [u8; 2]) -> u16 {
+        u16::from_be_bytes(bytes)
+    }
+
+    fn to_bytes(self) -> [u8; 2] {
+        self.to_be_bytes()
+    }
+}
+
 // Moisture from low to high, both ends within.
-#[derive(Clone, Copy, Default, PartialEq, Eq, Debug)]
-pub struct MoistureSpan {
-    pub low: u16,
-    pub high: u16,
-}
-
-impl MoistureSpan {
-    pub fn is_sound(self) -> bool
-        ensures { result ≡ span_sound self }
-    {
-        self.low <= self.high && self.high <= MOST_MOISTURE
-    }
-
-    pub fn holds(self, moisture: u16) -> bool
-        ensures { result ≡ in_span self moisture }
-    {
-        self.low <= moisture && moisture <= self.high
-    }
-}
+pub type MoistureSpan = Interval<u16>;
 
 impl Kind for Span {
     type Reading = u16;
@@ -66,7 +103,7 @@ impl Kind for Span {
     ghost readings = { moistures_lawful };
 
     fn is_lawful(self, reading: &u16) -> bool {
-        *reading <= MOST_MOISTURE
+        reading.is_lawful()
     }
 
     fn is_sound(self, test: &MoistureSpan) -> bool {
@@ -81,30 +118,23 @@ impl Kind for Span {
         let [a, b, c, d] = bytes else {
             return None;
         };
-        let test = MoistureSpan {
-            low: u16::from_be_bytes([*a, *b]),
-            high: u16::from_be_bytes([*c, *d]),
-        };
+        let test = MoistureSpan::of_bytes([*a, *b, *c, *d]);
         test.is_sound().then_some(test)
     }
 
     fn write_test(self, test: &MoistureSpan, buffer: &mut [u8]) -> Result<(), NoRoom> {
-        let [a, b] = test.low.to_be_bytes();
-        let [c, d] = test.high.to_be_bytes();
-        let bytes = [a, b, c, d];
-        write_front(&bytes, buffer)
+        write_front(&test.to_bytes(), buffer)
     }
 
     fn read_reading(self, bytes: &[u8]) -> Option<u16> {
         let [high, low] = bytes else {
             return None;
         };
-        let moisture = u16::from_be_bytes([*high, *low]);
-        self.is_lawful(&moisture).then_some(moisture)
+        let moisture = u16::of_bytes([*high, *low]);
+        moisture.is_lawful().then_some(moisture)
     }
 
     fn write_reading(self, reading: &u16, buffer: &mut [u8]) -> Result<(), NoRoom> {
-        let bytes = reading.to_be_bytes();
-        write_front(&bytes, buffer)
+        write_front(&reading.to_bytes(), buffer)
     }
 }

@@ -1,1 +1,2 @@
 pub mod Twinned
+mod Refusing

@@ -1,5 +1,5 @@
 -- Two stations worked by the same calls: one call more, and what they say. Assumes the promise over lists of calls.
-use Rattle.std.proofs.Common.{◌≡◌, ℕ, Bool, true, false, List, [], ◌∷◌, ◌++◌, length, Some, None, Ok, Err, Option, Result, sym, refl, ap, ◌∙◌, subst, inr, arith}
+use Rattle.std.proofs.Common.{◌≡◌, ℕ, Bool, true, false, List, [], ◌∷◌, ◌++◌, length, Some, None, Ok, Err, Option, Result, is_ok, sym, refl, ap, ◌∙◌, subst, inr, arith}
 use Rattle.std.specs.List.{slice_get}
 use Rattle.std.proofs.lemmas.Bool.{eq-eqb, and_from}
 use Rattle.matching.specs.Renaming.{Permutes}
@@ -91,13 +91,13 @@ module _ {T R : Type 0} (lawful : R → Bool) (passes : T → R → Bool) where
       }
 
   -- a frame fed to both: a full one moved, any other as it is
-  pub twins_moved : (o : Order) (s t s' t' : State T R) (f plugged old : List R) (a b : Result (Unit {0}) Told) (whole : Bool) → whole ≡ true → Plugged o f old whole plugged → Feeds lawful passes s f a s' → Feeds lawful passes t plugged b t' → Twinned lawful passes o s t → Twinned lawful passes o s' t'
-  twins_moved o s t s' t' f plugged old a b whole is p fs ft h =
+  pub twins_moved : {E : Type 0} (o : Order) (s t s' t' : State T R) (f plugged old : List R) (a b : Result (Unit {0}) Told) (done : Result (Unit {0}) E) → is_ok done ≡ true → Plugged o f old done plugged → Feeds lawful passes s f a s' → Feeds lawful passes t plugged b t' → Twinned lawful passes o s t → Twinned lawful passes o s' t'
+  twins_moved o s t s' t' f plugged old a b done is p fs ft h =
       let moved = p.moved is in
       twins_on o s t s' t' (feed f) (feed plugged) (plugged, refl, record { full = λ l. moved; other = λ ne. absurd (ne moved.full) }) (a, fs) (b, ft) h
 
-  pub twins_other : (o : Order) (s t s' t' : State T R) (f plugged old : List R) (a b : Result (Unit {0}) Told) (whole : Bool) → whole ≡ false → length old ≡ o.heads → Plugged o f old whole plugged → Feeds lawful passes s f a s' → Feeds lawful passes t f b t' → Twinned lawful passes o s t → Twinned lawful passes o s' t'
-  twins_other o s t s' t' f plugged old a b whole is long p fs ft h =
+  pub twins_other : {E : Type 0} (o : Order) (s t s' t' : State T R) (f plugged old : List R) (a b : Result (Unit {0}) Told) (done : Result (Unit {0}) E) → is_ok done ≡ false → length old ≡ o.heads → Plugged o f old done plugged → Feeds lawful passes s f a s' → Feeds lawful passes t f b t' → Twinned lawful passes o s t → Twinned lawful passes o s' t'
+  twins_other o s t s' t' f plugged old a b done is long p fs ft h =
       let not_full : length f ≡ o.heads → ⊥ = λ l.
       let both = and_from _ _ (eq-eqb (length f) o.heads l) (eq-eqb (length old) o.heads long) in
       let said = p.answer in

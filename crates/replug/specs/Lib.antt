@@ -1,2 +1,5 @@
 pub mod Orders
 pub mod Twins
+pub mod Tallies
+pub mod Refusing
+pub mod Lists

@@ -6,6 +6,8 @@ use sheetfile::limits::MOST_HEADS;
 
 mod plugging;
 
+pub use plugging::NotFull;
+
 // Head h goes into the socket of head `to[h]`, no two into one; `from` takes it back.
 #[derive(Clone, Copy)]
 pub struct Order {

@@ -1,14 +1,16 @@
 // Going through all lists of sockets, among which are all plug orders.
+ghost use Rattle.replug.specs.Lists.{Advances};
 
-// Goes on to the next list of as many sockets as heads, the last place fastest; false after the last list.
-pub fn advance(plugs: &mut [usize]) -> bool {
-    let heads = plugs.len();
-    for place in (0..heads).rev() {
-        if plugs[place] < heads - 1 {
-            plugs[place] += 1;
-            return true;
-        }
-        plugs[place] = 0;
-    }
-    false
+// Goes on to the next list of as many sockets as heads, the last place fastest; false, and the first list, after the last.
+pub(crate) fn advance(plugs: &mut [usize]) -> bool
+    ensures { Advances plugs.old result plugs.new }
+{
+    let last = plugs.len().saturating_sub(1);
+    let Some(place) = plugs.iter().rposition(|plug| *plug < last) else {
+        plugs.fill(0);
+        return false;
+    };
+    plugs[place] += 1;
+    plugs[place + 1..].fill(0);
+    true
 }

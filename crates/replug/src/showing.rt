@@ -1,27 +1,29 @@
 // What a line shows over a recorded run, in every plug order.
-ghost use Rattle.std.specs.Prelude.{◌≡◌, drop};
+ghost use Rattle.std.specs.Prelude.{Some};
+ghost use Rattle.replug.specs.Tallies.{tally_text, Counts};
 
 use crate::order::Order;
 use crate::plugs::advance;
 use crate::trouble::Trouble;
 use crate::twins::Twins;
 use kinds::kind::Kind;
-use matching::Placing;
 use runfile::field::{FIELD_START, RunField, next_run_field};
 use runfile::frame::read_frame;
-use sheet::entry::Entry;
 use sheet::plan::Plan;
-use sheetfile::limits::MOST_HEADS;
-use station::refusal::Refusal;
+use sheetfile::limits::{MOST_FRAMES, MOST_HEADS};
 use station::verdict::Verdict;
+use std::alloc::{AllocError, Global};
 use std::fmt;
-use std::fmt::Write;
+use std::fmt::{Display, Write};
 
 // lists of as many sockets as heads, at most: 8 ^ 8
 const MOST_LISTS: usize = 16_777_216;
 
+// readings that the longest tail keeps
+const MOST_KEPT: usize = MOST_FRAMES * MOST_HEADS;
+
 // How many plug orders there were, and how often the two lines agreed and differed.
-#[derive(Clone, Copy)]
+#[derive(Clone, Copy, Default, PartialEq, Eq, Debug)]
 pub struct Tally {
     pub orders: usize,
     pub agreed: usize,
@@ -29,7 +31,9 @@ pub struct Tally {
 }
 
 impl Tally {
-    fn count(&mut self, agree: bool) {
+    fn count(&mut self, agree: bool)
+        ensures { Counts self.old agree self.new }
+    {
         if agree {
             self.agreed = self.agreed.saturating_add(1);
         } else {
@@ -38,161 +42,166 @@ impl Tally {
     }
 }
 
+// How many orders and verdicts there were, and whether all agree.
+impl fmt::Display for Tally {
+    ghost output = { λ tally. Some (tally_text tally) };
+
+    fn fmt<W: fmt::Write>(&self, f: &mut fmt::Formatter<W>) -> fmt::Result {
+        let Tally {
+            orders,
+            agreed,
+            differed,
+        } = *self;
+        if differed == 0 {
+            write!(
+                f,
+                "{orders} plug orders, {agreed} verdicts: every verdict agrees"
+            )
+        } else {
+            write!(
+                f,
+                "{orders} plug orders: {agreed} verdicts agree, {differed} differ"
+            )
+        }
+    }
+}
+
 // Figures, with a blank before each.
-fn put_figures(out: &mut String, figures: &[usize]) -> fmt::Result {
-    for figure in figures {
-        write!(out, " {figure}")?;
-    }
-    Ok(())
-}
+#[derive(Clone, Copy)]
+struct Spaced<'a, T>(&'a [T]);
 
-// A signature seen at a frame, with the head of each track.
-fn put_seen(out: &mut String, number: usize, name: u16, placing: &Placing) -> fmt::Result {
-    write!(out, "; frame {number}: {name} on")?;
-    for head in placing.heads() {
-        write!(out, " {head}")?;
-    }
-    Ok(())
-}
-
-// The same, where the answer says that it is seen.
-fn put_answer(
-    out: &mut String,
-    number: usize,
-    name: u16,
-    answer: Result<Verdict, Refusal>,
-) -> fmt::Result {
-    let Ok(verdict) = answer else {
-        return Ok(());
-    };
-    match verdict {
-        Verdict::Seen(placing) => put_seen(out, number, name, &placing),
-        Verdict::Young | Verdict::Short(_) => Ok(()),
-    }
-}
-
-// Compares the two lines at every signature after a frame; those seen on the second go into the text.
-fn compare<K: Kind>(
-    twins: &Twins<'_, '_, '_, '_, K>,
-    entries: &[Entry],
-    number: usize,
-    tally: &mut Tally,
-    out: &mut String,
-) -> fmt::Result {
-    for (position, entry) in entries.iter().enumerate() {
-        let looked = twins.look(position);
-        tally.count(looked.agree);
-        put_answer(out, number, entry.name, looked.away)?;
-    }
-    Ok(())
-}
-
-// Works both lines by one field of the run; the answer is the number of frames so far.
-fn work_field<K: Kind>(
-    kind: K,
-    twins: &mut Twins<'_, '_, '_, '_, K>,
-    entries: &[Entry],
-    field: RunField<'_>,
-    number: usize,
-    frame: &mut [K::Reading],
-    plugged: &mut [K::Reading],
-    tally: &mut Tally,
-    out: &mut String,
-) -> Result<usize, Trouble> {
-    match field {
-        RunField::Frame(body, at) => {
-            read_frame(kind, body, at.saturating_add(FIELD_START), frame)?;
-            let _ = twins.feed(frame, plugged);
-            let next = number.saturating_add(1);
-            compare(twins, entries, next, tally, out)?;
-            Ok(next)
+impl<T: Display> fmt::Display for Spaced<'_, T> {
+    fn fmt<W: fmt::Write>(&self, f: &mut fmt::Formatter<W>) -> fmt::Result {
+        for figure in self.0 {
+            write!(f, " {figure}")?;
         }
-        RunField::Gap(_) => {
-            twins.gap();
-            Ok(number)
-        }
+        Ok(())
     }
 }
 
-// Works both lines by the run.
-fn work_twins<K: Kind>(
+// A sheet and a run that are shown, the text so far, and places for a frame as it is read and as it is plugged.
+#[derive(Drop)]
+pub(crate) struct Showing<'a, K: Kind> {
     kind: K,
-    twins: &mut Twins<'_, '_, '_, '_, K>,
-    entries: &[Entry],
-    run: &[u8],
-    frame: &mut [K::Reading],
-    plugged: &mut [K::Reading],
-    tally: &mut Tally,
-    out: &mut String,
-) -> Result<(), Trouble> {
-    let frame_bytes = frame.len().saturating_mul(kind.reading_width());
-    let mut rest = run;
-    let mut place = 0usize;
-    let mut number = 0usize;
-    while !rest.is_empty() {
-        let field = next_run_field(rest, place, frame_bytes)?;
-        number = work_field(
-            kind, twins, entries, field, number, frame, plugged, tally, out,
-        )?;
-        let size = field.size();
-        rest = behind(rest, size);
-        place = place.saturating_add(size);
-    }
-    Ok(())
+    plan: &'a Plan,
+    tests: &'a [K::Test],
+    run: &'a [u8],
+    frame: Vec<K::Reading>,
+    plugged: Vec<K::Reading>,
+    tally: Tally,
+    text: String,
 }
 
-// What is left behind so many bytes.
-fn behind(rest: &[u8], size: usize) -> &[u8]
-    ensures { result.now ≡ drop size rest.now }
+impl<'a, K: Kind> Showing<'a, K>
+where
+    K::Reading: Default,
 {
-    if size < rest.len() {
-        &rest[size..]
-    } else {
-        &[]
+    // Nothing shown yet.
+    pub(crate) fn new(
+        heap: Global,
+        kind: K,
+        plan: &'a Plan,
+        tests: &'a [K::Test],
+        run: &'a [u8],
+    ) -> Result<Showing<'a, K>, AllocError> {
+        Ok(Showing {
+            kind,
+            plan,
+            tests,
+            run,
+            frame: vec![in heap; K::Reading::default(); plan.heads()]?,
+            plugged: vec![in heap; K::Reading::default(); plan.heads()]?,
+            tally: Tally::default(),
+            text: String::new(heap),
+        })
     }
-}
 
-// A line for each plug order: the order, and what the line plugged so sees; last, whether every verdict agrees with that
-// of the line as it is. Memory for two tails and two frames is lent.
-pub fn show_orders<K: Kind>(
-    kind: K,
-    plan: &Plan,
-    tests: &[K::Test],
-    run: &[u8],
-    home: &mut [K::Reading],
-    away: &mut [K::Reading],
-    frame: &mut [K::Reading],
-    plugged: &mut [K::Reading],
-    out: &mut String,
-) -> Result<Tally, Trouble> {
-    let mut tally = Tally {
-        orders: 0,
-        agreed: 0,
-        differed: 0,
-    };
-    let mut places = [0; MOST_HEADS];
-    let plugs = &mut places[0..plan.heads().min(MOST_HEADS)];
-    for _ in 0..MOST_LISTS {
-        if let Some(order) = Order::new(plugs) {
-            write!(out, "sockets")?;
-            put_figures(out, plugs)?;
-            let mut twins = Twins::new(kind, order, plan, tests, home, away);
-            work_twins(
-                kind,
-                &mut twins,
-                plan.entries(),
-                run,
-                frame,
-                plugged,
-                &mut tally,
-                out,
-            )?;
-            writeln!(out)?;
-            tally.orders = tally.orders.saturating_add(1);
+    // Compares the two lines at every signature after a frame; those seen on the second go into the text.
+    fn compare(&mut self, twins: &Twins<'_, '_, '_, '_, K>, number: usize) -> fmt::Result {
+        for (position, entry) in self.plan.entries().iter().enumerate() {
+            let looked = twins.look(position);
+            self.tally.count(looked.agree);
+            if let Ok(Verdict::Seen(placing)) = looked.away {
+                let name = entry.name;
+                let heads = Spaced(placing.heads());
+                write!(self.text, "; frame {number}: {name} on{heads}")?;
+            }
         }
-        if !advance(plugs) {
-            break;
+        Ok(())
+    }
+
+    // Works both lines by one field of the run; the answer is the number of frames so far.
+    fn work_field(
+        &mut self,
+        twins: &mut Twins<'_, '_, '_, '_, K>,
+        field: RunField<'_>,
+        number: usize,
+    ) -> Result<usize, Trouble> {
+        match field {
+            RunField::Frame(body, at) => {
+                let start = at.saturating_add(FIELD_START);
+                read_frame(self.kind, body, start, self.frame.as_mut_slice())?;
+                let _ = twins.feed(self.frame.as_slice(), self.plugged.as_mut_slice());
+                let next = number.saturating_add(1);
+                self.compare(twins, next)?;
+                Ok(next)
+            }
+            RunField::Gap(_) => {
+                twins.gap();
+                Ok(number)
+            }
         }
     }
-    Ok(tally)
+
+    // Works both lines by the run.
+    fn work(&mut self, twins: &mut Twins<'_, '_, '_, '_, K>) -> Result<(), Trouble> {
+        let frame_bytes = self.frame.len().saturating_mul(K::R);
+        let mut rest = self.run;
+        let mut place = 0usize;
+        let mut number = 0usize;
+        while !rest.is_empty() {
+            let field = next_run_field(rest, place, frame_bytes)?;
+            let size = field.size();
+            number = self.work_field(twins, field, number)?;
+            rest = &rest[size.min(rest.len())..];
+            place = place.saturating_add(size);
+        }
+        Ok(())
+    }
+
+    // A line of the text: the order, and what the line plugged so sees. Memory for two tails is lent.
+    fn show_order(
+        &mut self,
+        order: Order,
+        plugs: &[usize],
+        home: &mut [K::Reading],
+        away: &mut [K::Reading],
+    ) -> Result<(), Trouble> {
+        let sockets = Spaced(plugs);
+        write!(self.text, "sockets{sockets}")?;
+        let mut twins = Twins::new(self.kind, order, self.plan, self.tests, home, away);
+        self.work(&mut twins)?;
+        writeln!(self.text)?;
+        self.tally.orders = self.tally.orders.saturating_add(1);
+        Ok(())
+    }
+
+    // The text: a line for each plug order, and last the tally.
+    pub(crate) fn show_orders(mut self, heap: Global) -> Result<String, Trouble> {
+        let mut home = vec![in heap; K::Reading::default(); MOST_KEPT]?;
+        let mut away = vec![in heap; K::Reading::default(); MOST_KEPT]?;
+        let mut places = [0; MOST_HEADS];
+        let plugs = &mut places[..self.plan.heads().min(MOST_HEADS)];
+        for _ in 0..MOST_LISTS {
+            if let Some(order) = Order::new(plugs) {
+                self.show_order(order, plugs, home.as_mut_slice(), away.as_mut_slice())?;
+            }
+            if !advance(plugs) {
+                break;
+            }
+        }
+        let tally = self.tally;
+        writeln!(self.text, "{tally}")?;
+        Ok(self.text)
+    }
 }

@@ -1,12 +1,12 @@
 // The answers to the lines of a case.
-use crate::hex;
+use crate::hex::Hex;
 use crate::readings::{Raw, frame};
 use crate::script::{Case, Step};
-use kinds::band::{Band, BandSet};
-use kinds::climate::{Climate, ClimateReading, ClimateTest, TemperatureSpan};
+use kinds::band::Band;
+use kinds::climate::Climate;
 use kinds::kind::Kind;
 use kinds::known::KnownKind;
-use kinds::span::{MoistureSpan, Span};
+use kinds::span::Span;
 use sheet::plan::Plan;
 use sheet::read_sheet;
 use sheetfile::fault::Fault;
@@ -14,172 +14,162 @@ use sheetfile::limits::{MOST_FRAMES, MOST_HEADS, MOST_TESTS};
 use station::refusal::Refusal;
 use station::station::Station;
 use station::verdict::Verdict;
-use std::alloc::{AllocError, Global};
+use std::alloc::Global;
 use std::fmt;
 use std::fmt::Write;
 
 // readings in the tail of a line of as many heads as there may be
 const MOST_MEMORY: usize = MOST_FRAMES * MOST_HEADS;
 
-// bytes of a reading, at most
-const MOST_WIDTH: usize = 4;
+// The answer to a line.
+#[derive(Drop)]
+enum Answer {
+    Made,
+    Fault(Fault),
+    Done,
+    Refused(Refusal),
+    Verdict(Verdict),
+    Reading(Vec<u8>),
+    Absent,
+}
 
-const BLANK_SPAN: MoistureSpan = MoistureSpan { low: 0, high: 0 };
-
-const BLANK_TEST: ClimateTest = ClimateTest {
-    moisture: BLANK_SPAN,
-    temperature: TemperatureSpan { low: 0, high: 0 },
-};
-
-const BLANK_READING: ClimateReading = ClimateReading {
-    moisture: 0,
-    temperature: 0,
-};
-
-fn put_made(out: &mut String, made: Result<(), Fault>) -> Result<(), AllocError> {
-    match made {
-        Ok(()) => writeln!(out, "made"),
-        Err(fault) => {
-            let number = fault.cause.number();
-            let layer = fault.cause.layer().number();
-            let place = fault.place;
-            writeln!(out, "fault {number} {layer} {place}")
+impl From<Result<(), Fault>> for Answer {
+    fn from(made: Result<(), Fault>) -> Answer {
+        match made {
+            Ok(()) => Answer::Made,
+            Err(fault) => Answer::Fault(fault),
         }
     }
 }
 
-fn put_refusal(out: &mut String, refusal: Refusal) -> Result<(), AllocError> {
+impl From<Result<(), Refusal>> for Answer {
+    fn from(fed: Result<(), Refusal>) -> Answer {
+        match fed {
+            Ok(()) => Answer::Done,
+            Err(refusal) => Answer::Refused(refusal),
+        }
+    }
+}
+
+impl From<Result<Verdict, Refusal>> for Answer {
+    fn from(look: Result<Verdict, Refusal>) -> Answer {
+        match look {
+            Ok(verdict) => Answer::Verdict(verdict),
+            Err(refusal) => Answer::Refused(refusal),
+        }
+    }
+}
+
+impl fmt::Display for Answer {
+    fn fmt<W: fmt::Write>(&self, f: &mut fmt::Formatter<W>) -> fmt::Result {
+        match self {
+            Answer::Made => write!(f, "made"),
+            Answer::Fault(fault) => write!(f, "{fault}"),
+            Answer::Done => write!(f, "ok"),
+            Answer::Refused(refusal) => put_refusal(f, *refusal),
+            Answer::Verdict(verdict) => put_verdict(f, verdict),
+            Answer::Reading(bytes) => {
+                let hex = Hex(bytes.as_slice());
+                write!(f, "{hex}")
+            }
+            Answer::Absent => write!(f, "absent"),
+        }
+    }
+}
+
+fn put_refusal<W: fmt::Write>(f: &mut fmt::Formatter<W>, refusal: Refusal) -> fmt::Result {
     let number = refusal.number();
     match refusal {
-        Refusal::Reading(head) => writeln!(out, "refused {number} {head}"),
-        _ => writeln!(out, "refused {number}"),
+        Refusal::Reading(head) => write!(f, "refused {number} {head}"),
+        _ => write!(f, "refused {number}"),
     }
 }
 
-fn put_fed(out: &mut String, fed: Result<(), Refusal>) -> Result<(), AllocError> {
-    match fed {
-        Ok(()) => writeln!(out, "ok"),
-        Err(refusal) => put_refusal(out, refusal),
-    }
-}
-
-fn put_seen(out: &mut String, heads: &[u8]) -> Result<(), AllocError> {
-    write!(out, "seen")?;
-    for head in heads {
-        write!(out, " {head}")?;
-    }
-    writeln!(out)
-}
-
-fn put_verdict(out: &mut String, verdict: Verdict) -> Result<(), AllocError> {
+fn put_verdict<W: fmt::Write>(f: &mut fmt::Formatter<W>, verdict: &Verdict) -> fmt::Result {
     match verdict {
-        Verdict::Young => writeln!(out, "young"),
-        Verdict::Seen(placing) => put_seen(out, placing.heads()),
+        Verdict::Young => write!(f, "young"),
+        Verdict::Seen(placing) => {
+            write!(f, "seen")?;
+            for head in placing.heads() {
+                write!(f, " {head}")?;
+            }
+            Ok(())
+        }
         Verdict::Short(set) => {
             let number = set.number();
-            writeln!(out, "short {number}")
+            write!(f, "short {number}")
         }
     }
 }
 
-fn put_look(out: &mut String, look: Result<Verdict, Refusal>) -> Result<(), AllocError> {
-    match look {
-        Ok(verdict) => put_verdict(out, verdict),
-        Err(refusal) => put_refusal(out, refusal),
-    }
-}
-
-fn put_reading<K: Kind>(out: &mut String, kind: K, reading: &K::Reading) -> fmt::Result {
-    let mut buffer = [0u8; MOST_WIDTH];
-    if kind.write_reading(reading, &mut buffer).is_err() {
-        return Err(fmt::Error);
-    }
-    let Some(bytes) = buffer.get(0..K::R) else {
-        return Err(fmt::Error);
-    };
-    hex::put(out, bytes)?;
-    writeln!(out)?;
-    Ok(())
-}
-
-fn put_back<K: Kind>(
-    out: &mut String,
+// The answer to a look-back, a reading by its bytes.
+fn back_answer<K: Kind>(
+    heap: Global,
     kind: K,
     back: Result<Option<K::Reading>, Refusal>,
-) -> fmt::Result {
+) -> anyhow::Result<Answer> {
     match back {
-        Ok(Some(reading)) => put_reading(out, kind, &reading),
-        Ok(None) => Ok(writeln!(out, "absent")?),
-        Err(refusal) => Ok(put_refusal(out, refusal)?),
+        Ok(Some(reading)) => {
+            let mut bytes = vec![in heap; 0u8; K::R]?;
+            kind.write_reading(&reading, bytes.as_mut_slice())?;
+            Ok(Answer::Reading(bytes))
+        }
+        Ok(None) => Ok(Answer::Absent),
+        Err(refusal) => Ok(Answer::Refused(refusal)),
     }
 }
 
-// Makes one call and adds its answer.
-fn put_step<K: Kind>(
+// Makes one call; what the station answers.
+fn step_answer<K: Kind>(
     heap: Global,
-    out: &mut String,
     kind: K,
     station: &mut Station<'_, '_, '_, K>,
     step: &Step,
-) -> anyhow::Result<()>
+) -> anyhow::Result<Answer>
 where
     K::Reading: Raw,
 {
     match step {
         Step::Feed(bytes) => {
             let frame = frame(heap, K::R, bytes.as_slice())?;
-            put_fed(out, station.feed(frame.as_slice()))?;
+            Ok(Answer::from(station.feed(frame.as_slice())))
         }
         Step::Gap => {
             station.gap();
-            writeln!(out, "ok")?;
+            Ok(Answer::Done)
         }
-        Step::Look(position) => put_look(out, station.look(*position))?,
-        Step::Recheck(position) => put_look(out, station.recheck(*position))?,
-        Step::Back { q, head } => put_back(out, kind, station.look_back(*q, *head))?,
+        Step::Look(position) => Ok(Answer::from(station.look(*position))),
+        Step::Recheck(position) => Ok(Answer::from(station.recheck(*position))),
+        Step::Back { q, head } => back_answer(heap, kind, station.look_back(*q, *head)),
     }
-    Ok(())
 }
 
-// The answers to a case of this kind, with the arrays that its station borrows.
-fn of_kind<K: Kind>(
-    heap: Global,
-    kind: K,
-    case: &Case,
-    store: &mut [K::Test],
-    memory: &mut [K::Reading],
-) -> anyhow::Result<String>
+// The answers to a case of this kind.
+fn case_answers<K: Kind>(heap: Global, kind: K, case: &Case) -> anyhow::Result<String>
 where
-    K::Reading: Raw,
+    K::Test: Default,
+    K::Reading: Default + Raw,
 {
+    let mut store = vec![in heap; K::Test::default(); MOST_TESTS]?;
+    let mut memory = vec![in heap; K::Reading::default(); MOST_MEMORY]?;
     let mut out = String::new(heap);
     let mut plan = Plan::empty();
-    let made = read_sheet(kind, case.sheet.as_slice(), &mut plan, store);
-    put_made(&mut out, made)?;
-    let mut station = Station::new(kind, &plan, store, memory);
+    let made = read_sheet(kind, case.sheet.as_slice(), &mut plan, store.as_mut_slice());
+    let answer = Answer::from(made);
+    writeln!(out, "{answer}")?;
+    let mut station = Station::new(kind, &plan, store.as_slice(), memory.as_mut_slice());
     for step in case.steps.iter() {
-        put_step(heap, &mut out, kind, &mut station, step)?;
+        let answer = step_answer(heap, kind, &mut station, step)?;
+        writeln!(out, "{answer}")?;
     }
     Ok(out)
 }
 
 // The answers to a case, a line for each of its lines.
-pub fn to_case(heap: Global, case: &Case) -> anyhow::Result<String> {
+pub(crate) fn to_case(heap: Global, case: &Case) -> anyhow::Result<String> {
     match KnownKind::of_sheet(case.sheet.as_slice()) {
-        KnownKind::Band => {
-            let mut store = [BandSet { bits: 0 }; MOST_TESTS];
-            let mut memory = [0; MOST_MEMORY];
-            of_kind(heap, Band, case, &mut store, &mut memory)
-        }
-        KnownKind::Span => {
-            let mut store = [BLANK_SPAN; MOST_TESTS];
-            let mut memory = [0; MOST_MEMORY];
-            of_kind(heap, Span, case, &mut store, &mut memory)
-        }
-        KnownKind::Climate => {
-            let mut store = [BLANK_TEST; MOST_TESTS];
-            let mut memory = [BLANK_READING; MOST_MEMORY];
-            of_kind(heap, Climate, case, &mut store, &mut memory)
-        }
+        KnownKind::Band => case_answers(heap, Band, case),
+        KnownKind::Span => case_answers(heap, Span, case),
+        KnownKind::Climate => case_answers(heap, Climate, case),
     }
 }

@@ -4,10 +4,22 @@ ghost use Rattle.std.specs.Prelude.{◌<◌, IfOk};
 use anyhow::anyhow;
 use std::alloc::Global;
 use std::fmt;
-use std::fmt::Write;
 
 // stands for no bytes
 const NOTHING: &str = "-";
+
+// Bytes as the text that means them.
+#[derive(Clone, Copy)]
+pub(crate) struct Hex<'a>(pub(crate) &'a [u8]);
+
+impl fmt::Display for Hex<'_> {
+    fn fmt<W: fmt::Write>(&self, f: &mut fmt::Formatter<W>) -> fmt::Result {
+        for byte in self.0 {
+            write!(f, "{byte:02x}")?;
+        }
+        Ok(())
+    }
+}
 
 fn digit(c: u8) -> anyhow::Result<u8>
     ensures { IfOk result (λ d. d < 16) }
@@ -26,8 +38,8 @@ fn byte(pair: &[u8]) -> anyhow::Result<u8> {
     Ok(digit(*high)? * 16 + digit(*low)?)
 }
 
-// The bytes that a text means.
-pub fn bytes(heap: Global, text: &str) -> anyhow::Result<Vec<u8>> {
+// The bytes that a text means. No `FromStr`: a `Vec` takes its allocator.
+pub(crate) fn bytes(heap: Global, text: &str) -> anyhow::Result<Vec<u8>> {
     let mut bytes = Vec::new(heap);
     if text == NOTHING {
         return Ok(bytes);
@@ -36,12 +48,4 @@ pub fn bytes(heap: Global, text: &str) -> anyhow::Result<Vec<u8>> {
         bytes.push(byte(pair)?)?;
     }
     Ok(bytes)
-}
-
-// Adds the text that means these bytes.
-pub fn put(out: &mut String, bytes: &[u8]) -> fmt::Result {
-    for byte in bytes {
-        write!(out, "{byte:02x}")?;
-    }
-    Ok(())
 }

@@ -1,11 +1,11 @@
 // A script as cases.
 use crate::hex;
-use anyhow::anyhow;
+use anyhow::{Context, anyhow};
 use std::alloc::Global;
 
 // A call of a station, with a frame as the bytes of its readings.
 #[derive(Drop)]
-pub enum Step {
+pub(crate) enum Step {
     Feed(Vec<u8>),
     Gap,
     Look(usize),
@@ -15,9 +15,9 @@ pub enum Step {
 
 // A sheet file, and the calls of the station that is made of it.
 #[derive(Drop)]
-pub struct Case {
-    pub sheet: Vec<u8>,
-    pub steps: Vec<Step>,
+pub(crate) struct Case {
+    pub(crate) sheet: Vec<u8>,
+    pub(crate) steps: Vec<Step>,
 }
 
 // A line of a script.
@@ -29,12 +29,12 @@ enum Line {
 
 // The two numbers of a look-back.
 fn parse_back(numbers: &str) -> anyhow::Result<Step> {
-    let Some((q, head)) = numbers.split_once(' ') else {
-        return Err(anyhow!("a look-back has two numbers"));
-    };
+    let (q, head) = numbers
+        .split_once(' ')
+        .context("a look-back has two numbers")?;
     Ok(Step::Back {
-        q: q.parse::<usize>()?,
-        head: head.parse::<usize>()?,
+        q: q.parse()?,
+        head: head.parse()?,
     })
 }
 
@@ -44,15 +44,15 @@ fn parse_line(heap: Global, text: &str) -> anyhow::Result<Line> {
         "sheet" => Ok(Line::Sheet(hex::bytes(heap, rest)?)),
         "feed" => Ok(Line::Call(Step::Feed(hex::bytes(heap, rest)?))),
         "gap" => Ok(Line::Call(Step::Gap)),
-        "look" => Ok(Line::Call(Step::Look(rest.parse::<usize>()?))),
-        "recheck" => Ok(Line::Call(Step::Recheck(rest.parse::<usize>()?))),
+        "look" => Ok(Line::Call(Step::Look(rest.parse()?))),
+        "recheck" => Ok(Line::Call(Step::Recheck(rest.parse()?))),
         "back" => Ok(Line::Call(parse_back(rest)?)),
         _ => Err(anyhow!("a line begins with no known word")),
     }
 }
 
 // The cases of a script.
-pub fn cases(heap: Global, script: &str) -> anyhow::Result<Vec<Case>> {
+pub(crate) fn cases(heap: Global, script: &str) -> anyhow::Result<Vec<Case>> {
     let mut cases: Vec<Case> = Vec::new(heap);
     for text in script.lines() {
         match parse_line(heap, text)? {
@@ -61,9 +61,9 @@ pub fn cases(heap: Global, script: &str) -> anyhow::Result<Vec<Case>> {
                 cases.push(Case { sheet, steps })?;
             }
             Line::Call(step) => {
-                let Some(case) = cases.last_mut() else {
-                    return Err(anyhow!("a call stands before the first sheet"));
-                };
+                let case = cases
+                    .last_mut()
+                    .context("a call stands before the first sheet")?;
                 case.steps.push(step)?;
             }
         }

@@ -1,37 +1,39 @@
 // Making plug orders, and moving frames by them.
-ghost use Rattle.std.specs.Prelude.{◌≡◌, ℕ, ◌<◌, ◌≤◌, true, ◌&&◌, length, MatchOption, ◌≢◌, slice_index};
+ghost use Rattle.std.specs.Prelude.{◌≡◌, ℕ, ◌<◌, ◌≤◌, length, Some, MatchOption, codes, slice_index};
 ghost use Rattle.std.specs.List.{slice_get};
 ghost use Rattle.matching.specs.Renaming.{Permutes};
 ghost use Rattle.sheetfile.specs.Limits.{most_heads};
-ghost use Rattle.replug.specs.Orders.{socket, Inverts, TakenBack, Plugged};
+ghost use Rattle.replug.specs.Orders.{socket, Inverts, SomeFree, TakenBack, Plugged};
 
 use super::Order;
 use sheetfile::limits::MOST_HEADS;
+use std::error::Error;
+use std::fmt;
 
-// The first head that goes into a socket.
-fn head_for(to: &[usize], socket: usize) -> Option<usize>
-    ensures { MatchOption result ((h : ℕ) → h < length to.now → slice_index to.now h ≢ socket) (λ h. (h < length to.now) × (slice_index to.now h ≡ socket)) }
-{
-    for (head, plug) in to.iter().enumerate() {
-        if *plug == socket {
-            return Some(head);
-        }
+// A frame, or the place for it, is not as long as the line has heads.
+#[derive(Clone, Copy, PartialEq, Eq, Debug)]
+pub struct NotFull;
+
+impl fmt::Display for NotFull {
+    ghost output = { λ _. Some (codes "not as many readings as heads") };
+
+    fn fmt<W: fmt::Write>(&self, f: &mut fmt::Formatter<W>) -> fmt::Result {
+        write!(f, "not as many readings as heads")
     }
-    None
 }
 
-// Writes for each socket the head that goes into it; false where some socket stays free.
-fn invert(to: &[usize], from: &mut [usize]) -> bool
-    requires { length to.now ≤ length from.old }
-    ensures { Inverts to.now from.new result }
+impl Error for NotFull {}
+
+// For each socket the first head that goes into it; none where some socket stays free.
+fn inverse(to: &[usize]) -> Option<[usize; MOST_HEADS]>
+    requires { length to.now ≤ most_heads }
+    ensures { MatchOption result (SomeFree to.now) (λ from. Inverts to.now from) }
 {
-    for socket in 0..to.len() {
-        let Some(head) = head_for(to, socket) else {
-            return false;
-        };
-        from[socket] = head;
+    let mut from = [0; MOST_HEADS];
+    for (socket, head) in from[..to.len()].iter_mut().enumerate() {
+        *head = to.iter().position(|plug| *plug == socket)?;
     }
-    true
+    Some(from)
 }
 
 // Whether each head goes into a socket for which `from` has just that head.
@@ -39,12 +41,8 @@ fn is_inverse(to: &[usize], from: &[usize]) -> bool
     requires { length to.now ≤ length from.now }
     ensures { TakenBack to.now from.now result }
 {
-    for (head, plug) in to.iter().enumerate() {
-        if *plug >= to.len() || from[*plug] != head {
-            return false;
-        }
-    }
-    true
+    to.iter().enumerate().all(|(head, plug)| *plug < to.len()
+        && from.get(*plug).copied() == Some(head))
 }
 
 // The list, with places for all heads that a line may have.
@@ -53,19 +51,18 @@ fn padded(list: &[usize]) -> [usize; MOST_HEADS]
     ensures { (h : ℕ) → h < length list.now → slice_index result h ≡ slice_index list.now h }
 {
     let mut places = [0; MOST_HEADS];
-    for (place, item) in list.iter().enumerate() {
-        places[place] = *item;
-    }
+    places[..list.len()].copy_from_slice(list);
     places
 }
 
 // Writes at each socket the reading of the head that goes into it.
 fn move_readings<R: Copy>(from: &[usize], frame: &[R], plugged: &mut [R])
-    requires { (length plugged.old ≤ length from.now) × (((x : ℕ) → x < length plugged.old → slice_index from.now x < length frame.now)) }
+    requires long { length plugged.old ≤ length from.now }
+    requires below { (x : ℕ) → x < length plugged.old → slice_index from.now x < length frame.now }
     ensures { (x : ℕ) → x < length plugged.old → slice_get plugged.new x ≡ slice_get frame.now (socket from.now x) }
 {
-    for socket in 0..plugged.len() {
-        plugged[socket] = frame[from[socket]];
+    for (socket, place) in plugged.iter_mut().enumerate() {
+        *place = frame[from[socket]];
     }
 }
 
@@ -78,10 +75,7 @@ impl Order {
         if plugs.len() > MOST_HEADS {
             return None;
         }
-        let mut from = [0; MOST_HEADS];
-        if !invert(plugs, &mut from) {
-            return None;
-        }
+        let from = inverse(plugs)?;
         if !is_inverse(plugs, &from) {
             return None;
         }
@@ -91,24 +85,22 @@ impl Order {
             from,
         })
     }
-}
 
-impl Order {
     pub fn heads(&self) -> usize
         ensures { result ≡ self.now.heads }
     {
         self.heads
     }
 
-    // Moves a full frame: the reading of each head is written at its socket. False, and nothing written, where frame and
-    // place for it are not as long as the line has heads.
-    pub fn plug<R: Copy>(&self, frame: &[R], plugged: &mut [R]) -> bool
+    // Moves a full frame: the reading of each head is written at its socket, or nothing where frame and place for it are
+    // not as long as the line has heads.
+    pub fn plug<R: Copy>(&self, frame: &[R], plugged: &mut [R]) -> Result<(), NotFull>
         ensures { Plugged self.now frame.now plugged.old result plugged.new }
     {
         if frame.len() != self.heads || plugged.len() != self.heads {
-            return false;
+            return Err(NotFull);
         }
         move_readings(&self.from, frame, plugged);
-        true
+        Ok(())
     }
 }

@@ -63,7 +63,7 @@ impl<'p, 's, 't, 'u, K: Kind> Twins<'p, 's, 't, 'u, K> {
         ensures kept { length plugged.old ≡ self.old.order.heads → Twinned K.facts.readings.proper K.facts.passes self.old.order (snap self.old.home) (snap self.old.away) → Twinned K.facts.readings.proper K.facts.passes self.old.order (snap self.new.home) (snap self.new.away) }
     {
         let answer = self.home.feed(frame);
-        if self.order.plug(frame, plugged) {
+        if self.order.plug(frame, plugged).is_ok() {
             let _ = self.away.feed(plugged);
         } else {
             let _ = self.away.feed(frame);
