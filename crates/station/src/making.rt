@@ -33,7 +33,7 @@ pub fn check_making<K: Kind>(
     if plan.is_empty() {
         return Err(Refusal::Plan);
     }
-    if plan.code() != kind.kind_code() {
+    if plan.code() != K::CODE {
         return Err(Refusal::Kind);
     }
     if tests.len() < tests_in(plan.entries()) {
