@@ -6,7 +6,7 @@
 
 use matching::{Fits, Outcome};
 use std::time::Instant;
-use std::{env, io};
+use std::{env, fmt, io};
 
 // Tables to a family and a unit of the argument.
 const TABLES: u32 = 20_000;
@@ -30,9 +30,9 @@ enum Family {
     Full,
 }
 
-impl Family {
-    fn name(self) -> &'static str {
-        match self {
+impl fmt::Display for Family {
+    fn fmt<W: fmt::Write>(&self, f: &mut fmt::Formatter<W>) -> fmt::Result {
+        f.write_str(match self {
             Family::Even => "even",
             Family::Sparse => "sparse",
             Family::Four => "four",
@@ -40,9 +40,11 @@ impl Family {
             Family::Late => "late",
             Family::Pair => "pair",
             Family::Full => "full",
-        }
+        })
     }
+}
 
+impl Family {
     // The next table: `random` has eight random rows.
     fn table(self, random: [u8; 8], other: [u8; 8]) -> Option<Fits> {
         match self {
@@ -76,85 +78,71 @@ fn with_last(mut rows: [u8; 8], last: u8) -> [u8; 8] {
     rows
 }
 
-// The next number of a xorshift.
-fn next(mut x: u64) -> u64 {
-    x ^= x << 13;
-    x ^= x >> 7;
-    x ^ (x << 17)
+// The numbers of a xorshift.
+#[derive(Drop)]
+struct Xorshift(u64);
+
+impl Xorshift {
+    // The number, and then on to the next one.
+    fn number(&mut self) -> u64 {
+        let number = self.0;
+        let mut x = number ^ (number << 13);
+        x ^= x >> 7;
+        self.0 = x ^ (x << 17);
+        number
+    }
 }
 
 // What a run over tables of a family came to.
-#[derive(Clone, Copy)]
+#[derive(Clone, Copy, Default)]
 struct Tally {
     seen: u64,
     short: u64,
     sum: u64,
 }
 
-fn counted(tally: Tally, outcome: Outcome) -> Tally {
-    match outcome {
-        Outcome::Seen(placing) => Tally {
-            seen: tally.seen.wrapping_add(1),
-            short: tally.short,
-            sum: tally
-                .sum
-                .wrapping_mul(31)
-                .wrapping_add(last_head(placing.heads())),
-        },
-        Outcome::Short(set) => Tally {
-            seen: tally.seen,
-            short: tally.short.wrapping_add(1),
-            sum: tally
-                .sum
-                .wrapping_mul(31)
-                .wrapping_add(u64::from(set.number())),
-        },
-    }
-}
-
-fn last_head(heads: &[u8]) -> u64 {
-    match heads.last() {
-        Some(head) => u64::from(*head),
-        None => 0,
+impl Tally {
+    fn count(&mut self, outcome: Outcome) {
+        let said = match outcome {
+            Outcome::Seen(placing) => {
+                self.seen = self.seen.wrapping_add(1);
+                placing.heads().last().copied().unwrap_or(0)
+            }
+            Outcome::Short(set) => {
+                self.short = self.short.wrapping_add(1);
+                set.number()
+            }
+        };
+        self.sum = self.sum.wrapping_mul(31).wrapping_add(said.into());
     }
 }
 
 fn run(family: Family, tables: u32) -> Tally {
-    let mut tally = Tally {
-        seen: 0,
-        short: 0,
-        sum: 0,
-    };
-    let mut x = 0x9e37_79b9_7f4a_7c15u64;
+    let mut tally = Tally::default();
+    let mut random = Xorshift(0x9e37_79b9_7f4a_7c15);
     for _ in 0..tables {
-        let y = next(x);
-        if let Some(fits) = family.table(x.to_le_bytes(), y.to_le_bytes()) {
-            tally = counted(tally, fits.outcome());
+        let (first, second) = (random.number(), random.number());
+        if let Some(fits) = family.table(first.to_le_bytes(), second.to_le_bytes()) {
+            tally.count(fits.outcome());
         }
-        x = next(y);
     }
     tally
 }
 
 fn report(rt: &HostRuntime, family: Family, tables: u32) -> io::Result<()> {
-    let name = family.name();
     let start = Instant::now(rt)?;
     let Tally { seen, short, sum } = run(family, tables);
     let nanos = start.elapsed(rt)?.as_nanos();
-    println!(rt; "{name}: seen {seen}, short {short}, sum {sum:016x}")?;
+    println!(rt; "{family}: seen {seen}, short {short}, sum {sum:016x}")?;
     let each = nanos / u128::from(tables.max(1));
     let rate = u128::from(tables) * 1_000_000_000 / nanos.max(1);
-    eprintln!(rt; "{name}: {rate} outcomes a second, {each} ns each")
+    eprintln!(rt; "{family}: {rate} outcomes a second, {each} ns each")
 }
 
 // How many times the usual number of tables: the first argument, or 1.
 fn times(rt: &HostRuntime) -> io::Result<u32> {
-    let mut words = env::args(rt)?;
-    let _ = words.next();
-    match words.next() {
-        Some(word) => Ok(word.as_str().parse::<u32>().unwrap_or(1)),
-        None => Ok(1),
-    }
+    let first = env::args(rt)?.nth(1);
+    Ok(first.and_then(|word| word.parse().ok()).unwrap_or(1))
 }
 
 fn main(rt: HostRuntime) -> io::Result<()> {

@@ -1,5 +1,5 @@
 -- Laws of counting. Sums of counts go by `count-sum`, and maps between what is counted by `count-into`.
-use Rattle.std.proofs.Common.{◌≡◌, ℕ, zero, suc, ◌+◌, ◌<◌, ◌≤◌, Bool, true, false, cond, not, ◌&&◌, ◌||◌, eqb, sym, refl, ap, ◌∙◌, inl, inr, add-one, arith}
+use Rattle.std.proofs.Common.{◌≡◌, ℕ, zero, suc, ◌+◌, ◌<◌, ◌≤◌, Bool, true, false, cond, not, ◌&&◌, ◌||◌, eqb, sym, refl, ap, ◌∙◌, inl, inr, arith}
 use mathlib.Core.Bool.{or-false}
 use Rattle.std.proofs.lemmas.Bool.Decides.{nat_tests}
 use Rattle.std.proofs.lemmas.Bool.{cases_lt, eqb-true, eq-eqb, ne_eqb, cases_Bool, true≢false, and_from, or_cases, or_left, or_right}
@@ -108,9 +108,6 @@ pub count_suc : (p : ℕ → Bool) (n : ℕ) → count p (suc n) ≡ count p n +
 count_suc p zero = omega arith
 count_suc p (suc n) = omega (arith, count_suc (λ x. p (suc x)) n)
 
-pub count_more : (p : ℕ → Bool) (n : ℕ) → count p (n + 1) ≡ count p n + cond (p n) 1 0
-count_more p n = rw add-one (count_suc p n)
-
 pub any_suc : (p : ℕ → Bool) (n : ℕ) → any p (suc n) ≡ (any p n || p n)
 any_suc p zero = each (p 0)
   where
@@ -120,9 +117,6 @@ any_suc p (suc n) = ap (λ b. p 0 || b) (any_suc (λ x. p (suc x)) n) ∙ each (
   where
     each : (a b c : Bool) → (a || (b || c)) ≡ ((a || b) || c)
     each a b c = grind arith
-
-pub any_more : (p : ℕ → Bool) (n : ℕ) → any p (n + 1) ≡ (any p n || p n)
-any_more p n = rw add-one (any_suc p n)
 
 pub count_le_all : (p : ℕ → Bool) (n : ℕ) → count p n ≤ n
 count_le_all p zero = omega arith

@@ -1,5 +1,5 @@
 -- Steps of the search from some track on.
-use Rattle.std.proofs.Common.{◌≡◌, ℕ, zero, suc, ◌+◌, ◌-◌, ◌^◌, ◌<◌, ◌≤◌, Bool, true, false, cond, not, ◌&&◌, eqb, List, [], ◌∷◌, length, get_or, take, drop, set, replicate, Some, None, Option, sym, refl, ap, ◌∙◌, inl, inr, add-one, arith}
+use Rattle.std.proofs.Common.{◌≡◌, ℕ, zero, suc, ◌+◌, ◌-◌, ◌^◌, ◌<◌, Bool, true, false, cond, not, ◌&&◌, eqb, List, [], ◌∷◌, length, get_or, take, drop, set, replicate, Some, None, Option, sym, refl, ap, ◌∙◌, inl, inr, add-one, arith}
 use mathlib.Core.Path.{fun_ext}
 use Rattle.std.proofs.lemmas.Bool.{true≢false, and_parts, not-false, eqb-true, cases_eq, cond-true, cond-false, and_from, and_cases}
 use Rattle.std.proofs.lemmas.List.{get_or-set_other}
@@ -13,7 +13,7 @@ use Rattle.matching.specs.Meaning.{table, fitting, heads_of}
 use Rattle.matching.specs.Onward.{onward, size, Honest}
 use Rattle.matching.proofs.Counting.{count_without}
 use Rattle.matching.proofs.First.{first_some_none, first_some_at, first_on_same}
-use Rattle.matching.proofs.Words.{has_and, has_none, has_ones, has_within, Least}
+use Rattle.matching.proofs.Words.{has_none, has_ones, has_within, Least}
 
 -- The first placing with the track t on the head h.
 abbrev pub with_head : Fits → ℕ → ℕ → ℕ → Option (List ℕ)

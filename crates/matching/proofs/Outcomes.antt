@@ -4,7 +4,7 @@ use Rattle.std.proofs.lemmas.Bool.{true≢false}
 use Rattle.matching.specs.declared.fits.Fits.{Fits}
 use Rattle.matching.specs.Sets.{has}
 use Rattle.matching.specs.Search.{first_placing_of}
-use Rattle.matching.specs.Answer.{Answer, said, answer, Right}
+use Rattle.matching.specs.Answer.{Answer, said, answer}
 use Rattle.matching.specs.Meaning.{fitting}
 use Rattle.matching.specs.Promises.{answer_for, RightFor, OnlyRight, SameRenamed, Local}
 use Rattle.matching.proofs.Words.{has_none, has_past}

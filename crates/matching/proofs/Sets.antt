@@ -1,6 +1,5 @@
 -- Laws of sets by number.
-use Rattle.std.proofs.Common.{◌≡◌, ℕ, zero, suc, ◌+◌, ◌-◌, ◌*◌, ◌/◌, ◌%◌, ◌^◌, ◌<◌, ◌≤◌, Bool, true, false, cond, not, ◌&&◌, eqb, sym, refl, ap, ◌∙◌, pow-suc, arith, pow_pos, shr-shr}
-use lib.Dec.{eqb-suc-zero, eqb-zero-suc, eqb-suc-suc}
+use Rattle.std.proofs.Common.{◌≡◌, ℕ, zero, suc, ◌+◌, ◌*◌, ◌/◌, ◌%◌, ◌^◌, ◌<◌, Bool, true, false, cond, eqb, refl, ap, ◌∙◌, pow-suc, arith, shr-shr}
 use Rattle.std.proofs.lemmas.Bool.{eqb-true, eqb-false, eq-eqb, ne_eqb}
 use Rattle.matching.specs.Sets.{has, sum_of_powers, Numbered}
 
@@ -62,36 +61,3 @@ sum_is (suc M) s l =
 
 pub numbered : Numbered
 numbered = record { sums = λ s n. sum_is n s; digits = has_digit }
-
-pub has_le : (s h : ℕ) → has s h ≡ true → 2 ^ h ≤ s
-has_le s zero e = omega (arith, eqb-true (s % 2) 1 e)
-has_le s (suc h) e = omega (arith, has_le (s / 2) h e, pow-suc 2 h)
-
--- A member taken out of a set.
-pub has_cleared : (s h x : ℕ) → has s h ≡ true → has (s - 2 ^ h) x ≡ (has s x && not (eqb x h))
-has_cleared s zero zero e = ne_eqb ((s - 1) % 2) 1 (λ z. omega (arith, z, eqb-true (s % 2) 1 e)) ∙ sym (go (eqb (s % 2) 1))
-  where
-    go : (a : Bool) → (a && false) ≡ false
-    go a = grind arith
-has_cleared s zero (suc x) e =
-    let d : (s - 1) / 2 ≡ s / 2 = omega (arith, eqb-true (s % 2) 1 e) in
-    ap (λ z. has z x) d ∙ go (has (s / 2) x) (eqb (suc x) 0) (eqb-suc-zero x)
-  where
-    go : (a b : Bool) → b ≡ false → a ≡ (a && not b)
-    go a b f = grind arith
-has_cleared s (suc h) zero e =
-    let d : (s - 2 ^ suc h) % 2 ≡ s % 2 = omega (arith, pow-suc 2 h, has_le s (suc h) e) in
-    ap (λ z. eqb z 1) d ∙ go (eqb (s % 2) 1) (eqb 0 (suc h)) (eqb-zero-suc h)
-  where
-    go : (a b : Bool) → b ≡ false → a ≡ (a && not b)
-    go a b f = grind arith
-has_cleared s (suc h) (suc x) e =
-    let d : (s - 2 ^ suc h) / 2 ≡ s / 2 - 2 ^ h = omega (arith, pow-suc 2 h, has_le s (suc h) e) in
-    ap (λ z. has z x) d ∙ has_cleared (s / 2) h x e ∙ ap (λ b. has (s / 2) x && not b) (sym (eqb-suc-suc x h))
-
-pub has_ones : (n h : ℕ) → h < n → has (2 ^ n - 1) h ≡ true
-has_ones zero h l = absurd (omega arith)
-has_ones (suc n) zero l = eq-eqb ((2 ^ suc n - 1) % 2) 1 (omega (arith, pow-suc 2 n, pow_pos n))
-has_ones (suc n) (suc h) l =
-    let d : (2 ^ suc n - 1) / 2 ≡ 2 ^ n - 1 = omega (arith, pow-suc 2 n, pow_pos n) in
-    ap (λ z. has z h) d ∙ has_ones n h (omega arith)

@@ -1,5 +1,5 @@
 -- The first placing, as a search: each track in turn takes the least free head that leaves a placing of the tracks after it.
-use Rattle.std.specs.Prelude.{ℕ, zero, suc, Bool, true, cond, not, ◌&&◌, List, [], ◌∷◌, Some, None, Option, ◌==◌}
+use Rattle.std.specs.Prelude.{ℕ, zero, suc, Bool, true, if◌then◌else◌, not, ◌&&◌, List, [], ◌∷◌, Some, None, Option, ◌==◌}
 use Rattle.matching.specs.Fitting.{Fitting, later}
 
 -- The free heads but h.
@@ -23,7 +23,7 @@ first_some f (suc n) = or_else (first_some f n) (f n)
 abbrev pub first_on : ℕ → Fitting → ℕ → (ℕ → Bool) → Option (List ℕ)
 first_on N fits zero free = Some []
 first_on N fits (suc k) free =
-    first_some (λ h. cond (free h && fits 0 h) (prepend h (first_on N (later fits) k (without free h))) None) N
+    first_some (λ h. if free h && fits 0 h then prepend h (first_on N (later fits) k (without free h)) else None) N
 
 -- The first placing of the tracks below M on the heads below N, if there is one.
 abbrev pub first_placing_of : Fitting → ℕ → ℕ → Option (List ℕ)

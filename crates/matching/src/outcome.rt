@@ -6,8 +6,10 @@ ghost use Rattle.matching.specs.Promises.{answer_for, RightFor, OnlyRight, SameR
 use crate::fits::Fits;
 use crate::placing::Placing;
 use crate::set::TrackSet;
+use std::fmt;
 
-/// Whether the tracks can stand on different heads.
+/// Whether the tracks can stand on different heads: printed as `seen 1 0` or `short 6`.
+// This is no `Result`: a set that is short is an answer as good as a placing, and neither is a failure.
 #[derive(Clone, Copy, Debug, PartialEq, Eq)]
 pub enum Outcome {
     /// They can, and this is the first placing.
@@ -32,6 +34,21 @@ impl Fits {
         match self.first_placing() {
             Some(placing) => Outcome::Seen(placing),
             None => Outcome::Short(self.least_short()),
+        }
+    }
+}
+
+impl fmt::Display for Outcome {
+    fn fmt<W: fmt::Write>(&self, f: &mut fmt::Formatter<W>) -> fmt::Result {
+        match self {
+            Outcome::Seen(placing) => {
+                f.write_str("seen")?;
+                for head in placing.heads() {
+                    write!(f, " {head}")?;
+                }
+                Ok(())
+            }
+            Outcome::Short(set) => write!(f, "short {}", set.number()),
         }
     }
 }

@@ -4,70 +4,53 @@
 
 ghost use Rattle.std.specs.Prelude.{◌<◌};
 
-use matching::{Fits, Outcome};
-use std::io;
+use matching::Fits;
+use std::{io, iter};
 
 fn main(rt: HostRuntime) -> io::Result<()> {
     for tracks in 0..4 {
         for heads in 0..4 {
-            let mut rows = [0u8; 3];
-            relations(&rt, heads, &mut rows[0..tracks])?;
+            relations(&rt, tracks, heads)?;
         }
     }
     Ok(())
 }
 
-// A line for each relation of these tracks on so many heads; the rows begin with no fits.
-fn relations(rt: &HostRuntime, heads: usize, rows: &mut [u8]) -> io::Result<()>
-    requires { heads < 4 }
+// A line for each relation of these tracks on so many heads.
+fn relations(rt: &HostRuntime, tracks: usize, heads: usize) -> io::Result<()>
+    requires tracks { tracks < 4 }
+    requires heads { heads < 4 }
 {
     let last = (1u8 << heads) - 1;
-    for _ in 0..512 {
-        line(rt, heads, rows)?;
-        if !advance(rows, last) {
-            return Ok(());
-        }
+    let relations = iter::successors(Some([0; 3]), |rows| after(*rows, tracks, last));
+    for rows in relations.take(512) {
+        line(rt, heads, &rows[..tracks])?;
     }
     Ok(())
 }
 
-// Goes on to the next relation, the first row fastest; false after the last.
-fn advance(rows: &mut [u8], last: u8) -> bool {
-    for row in rows.iter_mut() {
+// The relation after this one, where the row of the first track goes fastest.
+fn after(mut rows: [u8; 3], tracks: usize, last: u8) -> Option<[u8; 3]> {
+    for row in rows.iter_mut().take(tracks) {
         if *row < last {
             *row += 1;
-            return true;
+            return Some(rows);
         }
         *row = 0;
     }
-    false
+    None
 }
 
 fn line(rt: &HostRuntime, heads: usize, rows: &[u8]) -> io::Result<()> {
     let tracks = rows.len();
     print!(rt; "{tracks} tracks, {heads} heads, rows")?;
-    numbers(rt, rows)?;
-    let Some(fits) = Fits::new(heads, rows) else {
-        return println!(rt; ": refused");
-    };
-    match fits.outcome() {
-        Outcome::Seen(placing) => {
-            print!(rt; ": seen")?;
-            numbers(rt, placing.heads())?;
-            println!(rt; "")
-        }
-        Outcome::Short(set) => {
-            let number = set.number();
-            println!(rt; ": short {number}")
-        }
+    for row in rows {
+        print!(rt; " {row}")?;
     }
-}
-
-fn numbers(rt: &HostRuntime, list: &[u8]) -> io::Result<()> {
-    for n in list {
-        print!(rt; " {n}")?;
+    match Fits::new(heads, rows) {
+        Some(fits) => println!(rt; ": {}", fits.outcome()),
+        None => println!(rt; ": refused"),
     }
-    Ok(())
 }
 
 #[cfg(test)]

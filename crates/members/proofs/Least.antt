@@ -1,5 +1,5 @@
 -- The number less one, by its bits: at the least member it has none, and after it the same.
-use Rattle.std.proofs.Common.{◌≡◌, ℕ, zero, suc, ◌-◌, ◌/◌, ◌%◌, ◌^◌, ◌<◌, min, ◌≢◌, sym, ap, ◌∙◌, ap₂, inl, inr, arith}
+use Rattle.std.proofs.Common.{◌≡◌, ℕ, zero, suc, ◌-◌, ◌/◌, ◌^◌, ◌<◌, sym, ap, ◌∙◌, inl, inr, arith}
 use lib.Bits.{bit_and}
 use lib.Count.{count_trailing_zeros}
 use Rattle.std.specs.Int.{bit_at, w64}

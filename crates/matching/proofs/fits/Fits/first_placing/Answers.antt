@@ -1,4 +1,4 @@
-use Rattle.std.proofs.Common.{sym, ap, ◌∙◌, arith}
+use Rattle.std.proofs.Common.{sym, ◌∙◌, arith}
 use Rattle.matching.proofs.Onward.{onward_all, size_all, honest_fresh, undropped}
 use Rattle.matching.proofs.Outcomes.{idle_none}
 use Rattle.matching.proofs.fits.Fits.first_placing.Goals as goal

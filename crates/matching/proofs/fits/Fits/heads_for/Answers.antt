@@ -1,4 +1,4 @@
-use Rattle.std.proofs.Common.{sym, ap, ◌∙◌, arith, rules}
+use Rattle.std.proofs.Common.{ap, arith}
 use Rattle.matching.specs.Sets.{has}
 use Rattle.matching.specs.Meaning.{fitting}
 use Rattle.matching.proofs.Words.{least_of}

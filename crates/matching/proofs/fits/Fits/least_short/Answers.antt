@@ -1,4 +1,4 @@
-use Rattle.std.proofs.Common.{◌≡◌, ℕ, Bool, true, false, Some, sym, ap, ◌∙◌, pow_mono, rules}
+use Rattle.std.proofs.Common.{◌≡◌, Bool, true, false, pow_mono, rules}
 use Rattle.std.proofs.lemmas.Iterator.{first_from_find, YieldsList-from_range, YieldsList-from_map}
 use borrow.Author.Tests.{tests}
 use Rattle.matching.specs.declared.set.SmallSet.{SmallSet}

@@ -1,6 +1,5 @@
-use Rattle.std.proofs.Common.{length, refl, ap, ◌∙◌, arith}
+use Rattle.std.proofs.Common.{length, refl, ap, ◌∙◌}
 use Rattle.std.proofs.lemmas.Nat.{pow_pos}
-use Rattle.std.proofs.lemmas.Bool.{MatchBool-at_true}
 use Rattle.matching.specs.Sets.{has}
 use Rattle.matching.proofs.Rows.{get_d_past, padded, padded_within}
 use Rattle.matching.proofs.fits.Fits.new.Goals as goal

@@ -1,4 +1,4 @@
-use Rattle.std.proofs.Common.{refl, sym, ap, ◌∙◌, subst, length, length-take, arith}
+use Rattle.std.proofs.Common.{refl, sym, ap, ◌∙◌, subst, length-take, arith}
 use Rattle.std.proofs.lemmas.Nat.{pow_pos}
 use Rattle.matching.specs.Sets.{has}
 use Rattle.matching.proofs.Rows.{get_d_past, padded, padded_within}

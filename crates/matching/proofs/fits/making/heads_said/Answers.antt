@@ -1,4 +1,4 @@
-use Rattle.std.proofs.Common.{ℕ, ◌+◌, Bool, sym, ap, subst, arith}
+use Rattle.std.proofs.Common.{ℕ, ◌+◌, Bool, sym, subst}
 use Rattle.matching.specs.Members.{Members}
 use Rattle.matching.proofs.Members.{members_yes, members_no}
 use Rattle.matching.proofs.fits.making.heads_said.Goals.{then-fits, else-fits}

@@ -1,8 +1,8 @@
-use Rattle.std.proofs.Common.{◌≡◌, ◌+◌, ◌^◌, ◌<◌, true, set, None, sym, ap, ◌∙◌, subst, arith, rules}
+use Rattle.std.proofs.Common.{◌≡◌, ◌+◌, true, set, None, sym, ap, ◌∙◌, subst, arith, rules}
 use Rattle.std.specs.Option.{option_map}
 use Rattle.matching.specs.Onward.{onward, Honest}
 use Rattle.matching.proofs.Words.{least_of}
-use Rattle.matching.proofs.Onward.{onward_end, begins, next, finds, tries_on, gives_up, size_taken, honest_marked}
+use Rattle.matching.proofs.Onward.{onward_end, next, finds, tries_on, gives_up, size_taken, honest_marked}
 use Rattle.matching.proofs.placing.search.Search.+place.Goals as goal
 
 -- All tracks are placed.
