@@ -34,7 +34,7 @@ module _ {T : Type 0} {o : Outcome T (List Entry)} {s new : List T} {entries₀ 
   pub entries_fault : (e : Fault) → Left o 0 s (Err e) new → EntriesLeft o s entries₀ (Err e) new entries
   entries_fault e l = record {
     read = record { answer = ap (mapped length) l.answer; store_is = l.store_is };
-    filled = λ rs h. let z : ◌≡◌ {A = ℕ} 0 1 = let a = l.answer in cc in absurd (omega arith);
+    filled = λ rs h. let a = l.answer in absurd cc;
   }
 
   pub entries_done : (count : ℕ) → count ≤ length entries → drop count entries ≡ drop count entries₀ → Left o 0 s (Ok (take count entries ++ [])) new → EntriesLeft o s entries₀ (Ok count) new entries
