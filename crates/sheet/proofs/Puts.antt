@@ -21,11 +21,6 @@ module _ {T : Type 0} where
       ∙ ap (λ xs. xs ++ (ts ++ drop m s)) (sym e1)
       ∙ ap (λ xs. take (n + 1) (set s n t) ++ (ts ++ xs)) (sym e2)
 
-  pub length_put : (n : ℕ) (ts s : List T) → n + length ts ≤ length s → length (put n ts s) ≡ length s
-  length_put n ts s h =
-      length-append (take n s) (ts ++ drop (n + length ts) s)
-      ∙ omega (arith, length-take-le n s (omega arith), length-append ts (drop (n + length ts) s), length-drop (n + length ts) s)
-
   pub put_put : (n : ℕ) (ts us s : List T) → n + length ts ≤ length s → put n (ts ++ us) s ≡ put (n + length ts) us (put n ts s)
   put_put n ts us s h =
       let m = n + length ts in
@@ -61,10 +56,6 @@ module _ {T : Type 0} where
           answer = sym (ap (λ q. q.end) e) ∙ h.answer;
           store_is = sym (put_none n' s') ∙ ap (λ q. put n' q.tests s') (sym e) ∙ h.store_is;
         }
-
-    -- where a part has all that is left
-    pub same_left : {o' : Outcome T A} {n' : ℕ} {s' : List T} {r : Result A Fault} {new : List T} → Same o n s o' n' s' → Left o' n' s' r new → Left o n s r new
-    same_left h l = record { answer = l.answer ∙ h.answer; store_is = l.store_is ∙ h.store_is }
 
     -- one test more
     pub same_test : {o' o'' : Outcome T A} {n' : ℕ} {s' : List T} (t : T) → Same o n s o' n' s' → n' < length s' → o' ≡ record { tests = t ∷ o''.tests; end = o''.end } → Same o n s o'' (n' + 1) (set s' n' t)

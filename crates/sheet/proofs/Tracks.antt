@@ -20,6 +20,10 @@ use Rattle.sheet.specs.Stored.{Left}
 use Rattle.sheet.proofs.Puts.{Same, same_first, same_at, same_last, same_chain, left_chain, left_is, left_part, length_mid}
 use Rattle.sheet.proofs.Filling.{less_long}
 
+-- one part of a store in parts of m
+pub one_part : (i m : ℕ) → (i + 1) * m - i * m ≡ m
+one_part i m = omega (arith, suc-mul i m, ap (λ v. v * m) (add-one i))
+
 module _ {T : Type 0} (k : Coding T) (law : Lawful most_test_width k) (m : ℕ) where
   abbrev size : ℕ
   size = track_size k m

@@ -2,7 +2,7 @@
 use Rattle.std.proofs.Common.{◌≡◌, ℕ, zero, suc, ◌+◌, ◌-◌, ◌*◌, ◌<◌, ◌≤◌, false, eqb, List, [], ◌∷◌, ◌++◌, length, get_or, take, drop, set, Ok, Err, Result, sym, refl, ap, ◌∙◌, subst, arith}
 use native.Mathlib.Nat.{sub-zero}
 use borrow.Rule.Slice.PartMut.{put_mid}
-use Rattle.std.proofs.lemmas.Bool.{ne_eqb, eq-eqb, cond-false, cond-true}
+use Rattle.std.proofs.lemmas.Bool.{ne_eqb, eq-eqb, eqb-false, cond-false, cond-true}
 use Rattle.std.proofs.lemmas.List.{append-nil, append_assoc, length-drop, length-set, length-take-le, take-append-drop, take_more_set, drop-set-lt, drop-drop, drop-take}
 use Rattle.kinds.specs.Codings.{Coding, Lawful}
 use Rattle.kinds.specs.Kinds.{most_test_width}
@@ -26,11 +26,15 @@ pub bytes_of : (xs : List ℕ) → ((i : ℕ) → get_or xs i 0 < 256) → Bytes
 bytes_of [] h = tt
 bytes_of (x ∷ xs) h = (h 0, bytes_of xs (λ i. h (suc i)))
 
+-- as a loop's test says that something is left
+pub some_left : (xs : List ℕ) → false ≡ eqb (length xs) 0 → 0 < length xs
+some_left xs h = omega (arith, eqb-false (length xs) 0 (sym h))
+
 module _ {T : Type 0} {o : Outcome T (List Entry)} {s new : List T} {entries₀ entries : List Entry} where
   pub entries_fault : (e : Fault) → Left o 0 s (Err e) new → EntriesLeft o s entries₀ (Err e) new entries
   entries_fault e l = record {
     read = record { answer = ap (mapped length) l.answer; store_is = l.store_is };
-    filled = λ rs h. let z : ◌≡◌ {A = ℕ} 0 1 = let a = l.answer in cc in absurd (omega arith);
+    filled = λ rs h. let a = l.answer in absurd cc;
   }
 
   pub entries_done : (count : ℕ) → count ≤ length entries → drop count entries ≡ drop count entries₀ → Left o 0 s (Ok (take count entries ++ [])) new → EntriesLeft o s entries₀ (Ok count) new entries
@@ -111,9 +115,6 @@ module _ {T : Type 0} (k : Coding T) (law : Lawful most_test_width k) (room head
       module _ (some : 0 < length rest) (body : List ℕ) (is : Ok body ≡ field_read signature_tag place rest) where
         cut : (rest ≡ field signature_tag body ++ drop (3 + length body) rest) × (3 + length body ≤ length rest) × Bytes body
         cut = field_only signature_tag place rest body h.octets (sym is)
-
-        pub body_fits : 3 + length body ≤ length rest
-        body_fits = cut.1
 
         pub signatures_thirteenth : (d : Fault) → d ≡ fault Thirteenth place → count ≡ length entries → EntriesLeft whole s₀ entries₀ (Err d) s entries
         signatures_thirteenth d same-fault all =

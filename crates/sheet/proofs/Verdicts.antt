@@ -1,5 +1,5 @@
 -- What reading a file promises, from what the rule says. Assumes the laws of the kind.
-use Rattle.std.proofs.Common.{◌≡◌, ℕ, List, length, Ok, Err, Result, sym, ap, ◌∙◌, subst, arith}
+use Rattle.std.proofs.Common.{◌≡◌, ℕ, List, length, Ok, Err, Result, sym, ap, ◌∙◌, subst}
 use Rattle.kinds.specs.Codings.{Coding, Lawful}
 use Rattle.kinds.specs.Kinds.{most_test_width}
 use Rattle.sheetfile.specs.declared.fault.Fault.{Fault}
@@ -41,7 +41,6 @@ module _ {T : Type 0} (code : ℕ) (k : Coding T) (law : Lawful most_test_width 
         plan = subst (λ (r : Result (Sheet T) Fault). Filled r p) q h.plan;
         no_file = λ s w is.
             let b = ap (λ xs. (rule code k (length old) xs).end) is ∙ ap (λ o. o.end) (reads_back k law code (length old) s w.sheet_within w.enough) in
-            let z : ◌≡◌ {A = ℕ} 0 1 = cc in
-            omega arith;
+            cc;
         first_check = first_fails k code (length old) bytes e q;
       }

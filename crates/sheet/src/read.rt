@@ -13,6 +13,7 @@ use sheetfile::field::{Tag, body_of};
 use sheetfile::limits::{MOST_HEADS, MOST_SIGNATURES};
 
 // The plan of the sheet in `bytes`; its tests go into the store.
+#[tactic(auto, unfolding(sheetfile::specs::Reading::rule))]
 fn read_plan<K: Kind>(kind: K, bytes: &[u8], store: &mut [K::Test]) -> Result<Plan, Fault>
     ensures { PlanLeft (rule K.facts.code K.facts.tests (length store.old) bytes.now) store.old result store.new }
 {

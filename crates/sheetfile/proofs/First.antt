@@ -132,7 +132,7 @@ module _ {T : Type 0} (k : Coding T) where
   pub tracks_count : (m left at : ℕ) (xs : List ℕ) (tss : List (List T)) → (tracks_read k m left at xs).end ≡ Ok tss → length tss ≡ left
   unfolding tracks_read
   tracks_count m zero at xs [] h = refl
-  tracks_count m zero at xs (ts ∷ tss) h = let z : ◌≡◌ {A = ℕ} 0 1 = cc in absurd (omega arith)
+  tracks_count m zero at xs (ts ∷ tss) h = absurd cc
   tracks_count m (suc left) at xs tss h =
       let size = track_size k m in
       let rest = tracks_read k m left (at + size) (drop size xs) in
@@ -371,14 +371,14 @@ module _ {T : Type 0} (k : Coding T) where
   -- what a list of checks that comes to this says
   holds_or : (b : Bool) (x : Ends) (t : Told) → cond b x (Err t) ≡ Ok tt → (b ≡ true) × (x ≡ Ok tt)
   holds_or true x t h = (refl, h)
-  holds_or false x t h = let z : ◌≡◌ {A = ℕ} 0 1 = cc in absurd (omega arith)
+  holds_or false x t h = absurd cc
 
   run_holds : (cs : List Check) → run cs ≡ Ok tt → AllHold cs
   run_holds [] h = tt
   run_holds (c ∷ cs) h = let p = holds_or c.holds (run cs) c.refusal h in (p.0, run_holds cs p.1)
 
   run_fails : (cs : List Check) (t : Told) → run cs ≡ Err t → FirstFails cs t
-  run_fails [] t h = let z : ◌≡◌ {A = ℕ} 0 1 = cc in absurd (omega arith)
+  run_fails [] t h = absurd cc
   run_fails (c ∷ cs) t h = by c.holds refl (λ g. run_fails cs t g)
     where
       by : (b : Bool) → c.holds ≡ b → (run cs ≡ Err t → FirstFails cs t) → FirstFails (c ∷ cs) t

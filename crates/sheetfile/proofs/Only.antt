@@ -31,7 +31,7 @@ bytes_take (suc n) [] h = tt
 bytes_take (suc n) (x ∷ xs) h = (h.0, bytes_take n xs h.1)
 
 one_ok : {T : Type 0} (cause : Cause) (o : Option T) (at : ℕ) (r : Outcome T (List T)) (ts : List T) → (one_value cause o at r).end ≡ Ok ts → (t : T) × (us : List T) × (o ≡ Some t) × (r.end ≡ Ok us) × (t ∷ us ≡ ts) × ((one_value cause o at r).tests ≡ t ∷ r.tests)
-one_ok cause None at r ts h = let z : ◌≡◌ {A = ℕ} 0 1 = cc in absurd (omega arith)
+one_ok cause None at r ts h = absurd cc
 one_ok cause (Some t) at r ts h = let p = mapped_ok (λ us. t ∷ us) r.end ts h in (t, p.0, refl, p.1, p.2, refl)
 
 is : (a b : ℕ) → not (eqb a b) ≡ false → a ≡ b
@@ -41,9 +41,9 @@ lies : (low high n : ℕ) → not (within low high n) ≡ false → (low ≤ n) 
 lies low high n h = let p = and_parts (leb low n) (leb n high) (not-false (within low high n) h) in (leb-true low n p.0, leb-true n high p.1)
 
 pub field_only : (tag at : ℕ) (xs body : List ℕ) → Bytes xs → field_read tag at xs ≡ Ok body → (xs ≡ field tag body ++ drop (3 + length body) xs) × (3 + length body ≤ length xs) × Bytes body
-field_only tag at [] body h e = let z : ◌≡◌ {A = ℕ} 0 1 = cc in absurd (omega arith)
-field_only tag at (a ∷ []) body h e = let z : ◌≡◌ {A = ℕ} 0 1 = cc in absurd (omega arith)
-field_only tag at (a ∷ b ∷ []) body h e = let z : ◌≡◌ {A = ℕ} 0 1 = cc in absurd (omega arith)
+field_only tag at [] body h e = absurd cc
+field_only tag at (a ∷ []) body h e = absurd cc
+field_only tag at (a ∷ b ∷ []) body h e = absurd cc
 field_only tag at (a ∷ b ∷ c ∷ ys) body h e =
     let xs : List ℕ = a ∷ b ∷ c ∷ ys in
     let n = b * 256 + c in
@@ -67,7 +67,7 @@ module _ {T : Type 0} (k : Coding T) (law : Lawful most_test_width k) where
   pub values_only : (cause : Cause) (m at : ℕ) (xs : List ℕ) (ts : List T) → (values_read cause k m at xs).end ≡ Ok ts → ValuesOnly m xs (values_read cause k m at xs) ts
   unfolding values_read
   values_only cause zero at xs [] h = record { bytes = ap (λ n. drop n xs) (sym (zero-mul k.width)); within = record { long = refl; sound = tt }; tests = refl }
-  values_only cause zero at xs (t ∷ ts) h = let z : ◌≡◌ {A = ℕ} 0 1 = cc in absurd (omega arith)
+  values_only cause zero at xs (t ∷ ts) h = absurd cc
   values_only cause (suc m) at xs ts h =
       let w = k.width in
       let p = one_ok cause (k.reads (take w xs)) at (values_read cause k m (at + w) (drop w xs)) ts h in
@@ -116,7 +116,7 @@ module _ {T : Type 0} (k : Coding T) (law : Lawful most_test_width k) where
   pub tracks_only : (m left at : ℕ) (xs : List ℕ) (tss : List (List T)) → Bytes xs → left * track_size k m ≤ length xs → (tracks_read k m left at xs).end ≡ Ok tss → TracksOnly m left xs (tracks_read k m left at xs) tss
   unfolding tracks_read
   tracks_only m zero at xs [] b l h = record { bytes = ap (λ n. drop n xs) (sym (zero-mul (track_size k m))); within = tt; count = refl; tests = refl }
-  tracks_only m zero at xs (ts ∷ tss) b l h = let z : ◌≡◌ {A = ℕ} 0 1 = cc in absurd (omega arith)
+  tracks_only m zero at xs (ts ∷ tss) b l h = absurd cc
   tracks_only m (suc left) at xs tss b l h =
       let size = track_size k m in
       let long : left * size + size ≤ length xs = omega (arith, suc-mul left size) in
@@ -145,10 +145,10 @@ module _ {T : Type 0} (k : Coding T) (law : Lawful most_test_width k) where
 
   pub signature_only : (room heads least used at : ℕ) (body : List ℕ) (s : Signature T) → Bytes body → (signature_read k room heads least used at body).end ≡ Ok s → SignatureOnly room heads least used body (signature_read k room heads least used at body) s
   unfolding signature_body
-  signature_only room heads least used at [] s b h = let z : ◌≡◌ {A = ℕ} 0 1 = cc in absurd (omega arith)
-  signature_only room heads least used at (x ∷ []) s b h = let z : ◌≡◌ {A = ℕ} 0 1 = cc in absurd (omega arith)
-  signature_only room heads least used at (x ∷ y ∷ []) s b h = let z : ◌≡◌ {A = ℕ} 0 1 = cc in absurd (omega arith)
-  signature_only room heads least used at (x ∷ y ∷ z ∷ []) s b h = let z : ◌≡◌ {A = ℕ} 0 1 = cc in absurd (omega arith)
+  signature_only room heads least used at [] s b h = absurd cc
+  signature_only room heads least used at (x ∷ []) s b h = absurd cc
+  signature_only room heads least used at (x ∷ y ∷ []) s b h = absurd cc
+  signature_only room heads least used at (x ∷ y ∷ z ∷ []) s b h = absurd cc
   signature_only room heads least used at (x ∷ y ∷ n ∷ m ∷ ys) s b h =
       let body : List ℕ = x ∷ y ∷ n ∷ m ∷ ys in
       let p1 = went_on _ _ _ s h in
@@ -188,14 +188,14 @@ module _ {T : Type 0} (k : Coding T) (law : Lawful most_test_width k) where
 
   none_left : (room heads left least used : ℕ) (xs : List ℕ) (r : Outcome T (List (Signature T))) (ss : List (Signature T)) → length xs ≡ 0 → r ≡ give [] → r.end ≡ Ok ss → SignaturesOnly room heads left least used xs r ss
   none_left room heads left least used xs r [] l e h = record { bytes = nil_from_length xs l; within = tt; rising = tt; few = omega arith; fits = λ l. omega arith; tests = ap (λ o. o.tests) e }
-  none_left room heads left least used xs r (s ∷ ss) l e h = let z : ◌≡◌ {A = ℕ} 0 1 = cc in absurd (omega arith)
+  none_left room heads left least used xs r (s ∷ ss) l e h = absurd cc
 
   pub signatures_only : (room heads left least used at : ℕ) (xs : List ℕ) (ss : List (Signature T)) → Bytes xs → (signatures_read k room heads left least used at xs).end ≡ Ok ss → SignaturesOnly room heads left least used xs (signatures_read k room heads left least used at xs) ss
   unfolding signatures_read signature_bytes
   signatures_only room heads zero least used at xs ss b h =
       ⊎_elim
       (λ w. none_left room heads zero least used xs _ ss (eqb-true (length xs) 0 w.0) w.1 h)
-      (λ w. let p = on_ok (field_read 2 at xs) (λ body. stop (fault Thirteenth at)) ss w.2 in let z : ◌≡◌ {A = ℕ} 0 1 = let e = p.3 in cc in absurd (omega arith))
+      (λ w. let p = on_ok (field_read 2 at xs) (λ body. stop (fault Thirteenth at)) ss w.2 in let e = p.3 in absurd cc)
       (either_way (eqb (length xs) 0) (give []) (on (field_read 2 at xs) (λ body. stop (fault Thirteenth at))) ss h)
   signatures_only room heads (suc left) least used at xs ss b h =
       let next : List ℕ → Signature T → Outcome T (List (Signature T)) = λ body s. signatures_read k room heads left (s.name + 1) (used + test_count s) (at + (3 + length body)) (drop (3 + length body) xs) in
