@@ -1,8 +1,8 @@
 -- Reading the head field: its checks one by one, and the plan of a sheet that was read. Assumes the laws of the kind.
-use Rattle.std.proofs.Common.{◌≡◌, ℕ, suc, ◌+◌, ◌-◌, ◌<◌, ◌≤◌, true, false, not, eqb, leb, List, [], ◌∷◌, ◌++◌, length, get_or, take, drop, replicate, Ok, Err, Result, sym, refl, ap, ◌∙◌, subst, inr, arith}
+use Rattle.std.proofs.Common.{◌≡◌, ℕ, suc, ◌+◌, ◌<◌, ◌≤◌, true, not, eqb, leb, List, [], ◌∷◌, ◌++◌, length, get_or, take, drop, replicate, Ok, Result, sym, refl, ap, ◌∙◌, subst, inr, arith}
 use Rattle.std.specs.List.{flat_map}
-use Rattle.std.proofs.lemmas.Bool.{ne_eqb, eq-eqb, leb-true, and_parts, not_from_true, not_from_false}
-use Rattle.std.proofs.lemmas.List.{length-drop, take_at, take_rest, drop-replicate}
+use Rattle.std.proofs.lemmas.Bool.{ne_eqb, leb-true, and_parts, not_from_true}
+use Rattle.std.proofs.lemmas.List.{length-drop, take_at, drop-replicate}
 use Rattle.kinds.specs.Codings.{Coding, Lawful}
 use Rattle.kinds.specs.Kinds.{most_test_width, Coded}
 use Rattle.sheetfile.specs.declared.fault.Cause.TheVariants.{Length, Kind, Heads, Bare}
@@ -11,17 +11,16 @@ use Rattle.sheetfile.specs.Card.{fault}
 use Rattle.sheetfile.specs.Limits.{most_heads, most_signatures, within}
 use Rattle.sheetfile.specs.Sheets.{Signature, Sheet, Each, SignatureWithin, Rising, test_count}
 use Rattle.sheetfile.specs.Encoding.{signature_bytes}
-use Rattle.sheetfile.specs.Outcomes.{Outcome, stop, check, on, mapped, into}
+use Rattle.sheetfile.specs.Outcomes.{Outcome, check, on, mapped, into}
 use Rattle.sheetfile.specs.Reading.{field_read, signatures_read, rule}
-use Rattle.sheetfile.proofs.Outcomes.{held, caught, is_not, isnt, told_ok, told_err}
+use Rattle.sheetfile.proofs.Outcomes.{held, is_not, told_ok}
 use Rattle.sheetfile.proofs.Only.{Bytes, bytes_drop, field_only, signatures_only}
 use Rattle.sheet.specs.declared.entry.Entry.{Entry}
 use Rattle.sheet.specs.declared.plan.Plan.{Plan}
 use Rattle.sheet.specs.Stored.{put}
 use Rattle.sheet.specs.Entries.{entries_of, EntriesLeft}
 use Rattle.sheet.specs.Plans.{blank, EntryWithin, EntriesRise, Kept}
-use Rattle.sheet.specs.Filled.{SaysNothing, Filled, Made, PlanLeft, SheetLeft}
-use Rattle.sheet.proofs.Puts.{put_none}
+use Rattle.sheet.specs.Filled.{Made, PlanLeft}
 
 -- a plan's entries, from the signatures they stand for
 module _ {T : Type 0} (k : Coding T) where
@@ -38,28 +37,6 @@ module _ {T : Type 0} (k : Coding T) where
   entries_long first [] = refl
   entries_long first (s ∷ ss) = ap suc (entries_long (first + test_count s) ss)
 
-module _ {T : Type 0} {o : Outcome T (Sheet T)} {s new : List T} (e : Fault) where
-  pub plan_err : o.end ≡ Err e → new ≡ put 0 o.tests s → PlanLeft o s (Err e) new
-  plan_err h p = record { made = subst (λ (r : Result (Sheet T) Fault). Made r (Err e)) (sym h) refl; store_is = p }
-
-pub plan_stop : {T : Type 0} {o : Outcome T (Sheet T)} (e : Fault) (s : List T) → o ≡ stop e → PlanLeft o s (Err e) s
-plan_stop e s h = plan_err e (ap (λ q. q.end) h) (sym (put_none 0 s) ∙ ap (λ q. put 0 q.tests s) (sym h))
-
--- as a caller takes the plan out
-pub sheet_ok : {T : Type 0} {o : Outcome T (Sheet T)} {s new : List T} (p : Plan) → PlanLeft o s (Ok p) new → SheetLeft o s (Ok tt) p new
-sheet_ok {T = T} {o = o} {s = s} {new = new} p h = ok o.end h.made refl
-  where
-    ok : (r : Result (Sheet T) Fault) → Made r (Ok p) → o.end ≡ r → SheetLeft o s (Ok tt) p new
-    ok (Ok v) m e = record { read = record { answer = sym (ap (mapped (λ a. tt)) e); store_is = h.store_is }; plan = subst (λ (q : Result (Sheet T) Fault). Filled q p) (sym e) m }
-    ok (Err d) m e = absurd m
-
-pub sheet_err : {T : Type 0} {o : Outcome T (Sheet T)} {s new : List T} (e : Fault) (p : Plan) → SaysNothing p → PlanLeft o s (Err e) new → SheetLeft o s (Err e) p new
-sheet_err {T = T} {o = o} {s = s} {new = new} e p none h = err o.end h.made refl
-  where
-    err : (r : Result (Sheet T) Fault) → Made r (Err e) → o.end ≡ r → SheetLeft o s (Err e) p new
-    err (Ok v) m q = absurd m
-    err (Err d) m q = record { read = record { answer = ap Err m ∙ sym (ap (mapped (λ a. tt)) q); store_is = h.store_is }; plan = subst (λ (w : Result (Sheet T) Fault). Filled w p) (sym q) none }
-
 module _ {T : Type 0} (code : ℕ) (k : Coding T) (room : ℕ) (xs : List ℕ) where
   abbrev rest : List ℕ → Outcome T (List (Signature T))
   rest head = signatures_read k room (get_or head 1 0) most_signatures 0 0 5 (drop 5 xs)
@@ -67,120 +44,70 @@ module _ {T : Type 0} (code : ℕ) (k : Coding T) (room : ℕ) (xs : List ℕ) w
   abbrev sheet : List ℕ → List (Signature T) → Sheet T
   sheet head = λ ss. record { code = get_or head 0 0; heads = get_or head 1 0; signatures = ss }
 
-  abbrev r4 : List ℕ → Outcome T (Sheet T)
-  r4 head = into (sheet head) (rest head)
+  -- a head that passes every check, and more bytes behind it
+  module _ (head : List ℕ) (is : Ok head ≡ field_read 1 0 xs) (two : length head ≡ 2) (coded : get_or head 0 0 ≡ code) (few : within 1 most_heads (get_or head 1 0) ≡ true) (more : length xs ≡ 5 → ⊥) where
+    abbrev read : Outcome T (List (Signature T))
+    read = rest head
 
-  abbrev r3 : List ℕ → Outcome T (Sheet T)
-  r3 head = check (eqb (length xs) 5) (fault Bare 5) (r4 head)
-
-  abbrev r2 : List ℕ → Outcome T (Sheet T)
-  r2 head = check (not (within 1 most_heads (get_or head 1 0))) (fault Heads 4) (r3 head)
-
-  abbrev r1 : List ℕ → Outcome T (Sheet T)
-  r1 head = check (not (eqb (get_or head 0 0) code)) (fault Kind 3) (r2 head)
-
-  abbrev r0 : List ℕ → Outcome T (Sheet T)
-  r0 head = check (not (eqb (length head) 2)) (fault Length 0) (r1 head)
-
-  pub rule_cut : (e : Fault) → Err e ≡ field_read 1 0 xs → rule code k room xs ≡ stop e
-  unfolding rule
-  rule_cut e h = ap (λ r. on r r0) (sym h)
-
-  module _ (head : List ℕ) (is : Ok head ≡ field_read 1 0 xs) where
-    p0 : rule code k room xs ≡ r0 head
+    all : rule code k room xs ≡ into (sheet head) read
     unfolding rule
-    p0 = ap (λ r. on r r0) (sym is)
+    all =
+        ap (λ r. on r (λ b.
+        check (not (eqb (length b) 2)) (fault Length 0)
+        (check (not (eqb (get_or b 0 0) code)) (fault Kind 3)
+        (check (not (within 1 most_heads (get_or b 1 0))) (fault Heads 4)
+        (check (eqb (length xs) 5) (fault Bare 5)
+        (into (sheet b) (rest b))))))) (sym is)
+        ∙ held _ _ _ (is_not (length head) 2 two)
+        ∙ held _ _ _ (is_not (get_or head 0 0) code coded)
+        ∙ held _ _ _ (not_from_true (within 1 most_heads (get_or head 1 0)) few)
+        ∙ held _ _ _ (ne_eqb (length xs) 5 more)
 
-    pub rule_size : (length head ≡ 2 → ⊥) → rule code k room xs ≡ stop (fault Length 0)
-    rule_size h = p0 ∙ caught _ (r1 head) _ (isnt (length head) 2 h)
+    head_count : (1 ≤ get_or head 1 0) × (get_or head 1 0 ≤ most_heads)
+    head_count = let p = and_parts (leb 1 (get_or head 1 0)) (leb (get_or head 1 0) most_heads) few in (leb-true 1 (get_or head 1 0) p.0, leb-true (get_or head 1 0) most_heads p.1)
 
-    module _ (two : length head ≡ 2) where
-      p1 : rule code k room xs ≡ r1 head
-      p1 = p0 ∙ held _ (r1 head) _ (is_not (length head) 2 two)
+    module _ {s new : List T} {entries : List Entry} (known : Coded code) (law : Lawful most_test_width k) (octets : Bytes xs) (count : ℕ) (empty : Entry) (is_blank : empty ≡ blank) (h : EntriesLeft (into (entries_of 0) read) s (replicate most_signatures empty) (Ok count) new entries) where
+      found : (ss : List (Signature T)) × (read.end ≡ Ok ss) × (length (entries_of 0 ss) ≡ count) × (entries ≡ entries_of 0 ss ++ drop (length (entries_of 0 ss)) (replicate most_signatures blank))
+      found =
+          let q = told_ok length (mapped (entries_of 0) read.end) count h.read.answer in
+          let p = told_ok (entries_of 0) read.end q.0 (sym q.1) in
+          (p.0, p.1, ap length p.2 ∙ q.2, h.filled (entries_of 0 p.0) (ap (mapped (entries_of 0)) p.1) ∙ ap (λ e. entries_of 0 p.0 ++ drop (length (entries_of 0 p.0)) (replicate most_signatures e)) is_blank)
 
-      pub rule_code : (get_or head 0 0 ≡ code → ⊥) → rule code k room xs ≡ stop (fault Kind 3)
-      rule_code h = p1 ∙ caught _ (r2 head) _ (isnt (get_or head 0 0) code h)
+      front : take count entries ≡ entries_of 0 found.0
+      front = ap (take count) found.3 ∙ take_at (entries_of 0 found.0) (drop (length (entries_of 0 found.0)) (replicate most_signatures blank)) count found.2
 
-      module _ (coded : get_or head 0 0 ≡ code) where
-        p2 : rule code k room xs ≡ r2 head
-        p2 = p1 ∙ held _ (r2 head) _ (is_not (get_or head 0 0) code coded)
+      some_signature : (ss : List (Signature T)) (ys : List ℕ) → ys ≡ flat_map (signature_bytes k) ss → 0 < length ys → 1 ≤ length ss
+      some_signature [] ys e l = absurd (omega (arith, ap length e))
+      some_signature (x ∷ ss) ys e l = omega arith
 
-        pub rule_heads : within 1 most_heads (get_or head 1 0) ≡ false → rule code k room xs ≡ stop (fault Heads 4)
-        rule_heads h = p2 ∙ caught _ (r3 head) _ (not_from_false (within 1 most_heads (get_or head 1 0)) h)
+      pub rule_kept : Kept (get_or head 0 0) (get_or head 1 0) count entries
+      rule_kept =
+          let ss = found.0 in
+          let only = signatures_only k law room (get_or head 1 0) most_signatures 0 0 5 (drop 5 xs) ss (bytes_drop 5 xs octets) found.1 in
+          let f = field_only 1 0 xs head octets (sym is) in
+          let more_bytes : 0 < length (drop 5 xs) = (let ne : length xs ≡ 5 → ⊥ = more in omega (arith, length-drop 5 xs, f.1, two, ne)) in
+          let one = some_signature ss (drop 5 xs) only.bytes more_bytes in
+          let long = entries_long k 0 ss in
+          ∣ inr (record {
+            coded = subst (λ (c : ℕ). Coded c) (sym coded) known;
+            some_heads = head_count.0;
+            few_heads = head_count.1;
+            some_entries = omega (arith, found.2);
+            few_entries = omega (arith, found.2, only.few);
+            each = subst (λ (rs : List Entry). Each (EntryWithin (get_or head 1 0)) rs) (sym front) (entries_within k (get_or head 1 0) 0 ss only.within);
+            rise = subst (λ (rs : List Entry). EntriesRise 0 0 rs) (sym front) (entries_rise k 0 0 ss only.rising);
+          }) ∣₁
 
-        module _ (few : within 1 most_heads (get_or head 1 0) ≡ true) where
-          p3 : rule code k room xs ≡ r3 head
-          p3 = p2 ∙ held _ (r3 head) _ (not_from_true (within 1 most_heads (get_or head 1 0)) few)
-
-          pub rule_bare : length xs ≡ 5 → rule code k room xs ≡ stop (fault Bare 5)
-          rule_bare h = p3 ∙ caught _ (r4 head) _ (eq-eqb (length xs) 5 h)
-
-          pub few_heads : (1 ≤ get_or head 1 0) × (get_or head 1 0 ≤ most_heads)
-          few_heads = let p = and_parts (leb 1 (get_or head 1 0)) (leb (get_or head 1 0) most_heads) few in (leb-true 1 (get_or head 1 0) p.0, leb-true (get_or head 1 0) most_heads p.1)
-
-          module _ (more : length xs ≡ 5 → ⊥) where
-            p4 : rule code k room xs ≡ r4 head
-            p4 = p3 ∙ held _ (r4 head) _ (ne_eqb (length xs) 5 more)
-
-            -- the signatures, as the code has what is left
-            abbrev read : Outcome T (List (Signature T))
-            read = signatures_read k room (get_or head 1 0) most_signatures 0 0 5 (take (length xs - 5) (drop 5 xs))
-
-            same : read ≡ rest head
-            same = ap (signatures_read k room (get_or head 1 0) most_signatures 0 0 5) (take_rest xs 5)
-
-            all : rule code k room xs ≡ into (sheet head) read
-            all = p4 ∙ ap (into (sheet head)) (sym same)
-
-            module _ {s new : List T} {entries : List Entry} where
-              pub rule_broke : (e : Fault) → EntriesLeft (into (entries_of 0) read) s (replicate most_signatures blank) (Err e) new entries → PlanLeft (rule code k room xs) s (Err e) new
-              rule_broke e h =
-                  let q = told_err length (mapped (entries_of 0) read.end) e h.read.answer in
-                  let p = told_err (entries_of 0) read.end e (sym q) in
-                  plan_err e (ap (λ o. o.end) all ∙ ap (mapped (sheet head)) p) (h.read.store_is ∙ ap (λ o. put 0 o.tests s) (sym all))
-
-              module _ (known : Coded code) (law : Lawful most_test_width k) (octets : Bytes xs) (count : ℕ) (h : EntriesLeft (into (entries_of 0) read) s (replicate most_signatures blank) (Ok count) new entries) where
-                found : (ss : List (Signature T)) × (read.end ≡ Ok ss) × (length (entries_of 0 ss) ≡ count) × (entries ≡ entries_of 0 ss ++ drop (length (entries_of 0 ss)) (replicate most_signatures blank))
-                found =
-                    let q = told_ok length (mapped (entries_of 0) read.end) count h.read.answer in
-                    let p = told_ok (entries_of 0) read.end q.0 (sym q.1) in
-                    (p.0, p.1, ap length p.2 ∙ q.2, h.filled (entries_of 0 p.0) (ap (mapped (entries_of 0)) p.1))
-
-                front : take count entries ≡ entries_of 0 found.0
-                front = ap (take count) found.3 ∙ take_at (entries_of 0 found.0) (drop (length (entries_of 0 found.0)) (replicate most_signatures blank)) count found.2
-
-                some_signature : (ss : List (Signature T)) (ys : List ℕ) → ys ≡ flat_map (signature_bytes k) ss → 0 < length ys → 1 ≤ length ss
-                some_signature [] ys e l = absurd (omega (arith, ap length e))
-                some_signature (x ∷ ss) ys e l = omega arith
-
-                pub rule_kept : Kept (get_or head 0 0) (get_or head 1 0) count entries
-                rule_kept =
-                    let ss = found.0 in
-                    let only = signatures_only k law room (get_or head 1 0) most_signatures 0 0 5 (drop 5 xs) ss (bytes_drop 5 xs octets) (ap (λ o. o.end) (sym same) ∙ found.1) in
-                    let f = field_only 1 0 xs head octets (sym is) in
-                    let more_bytes : 0 < length (drop 5 xs) = (let ne : length xs ≡ 5 → ⊥ = more in omega (arith, length-drop 5 xs, f.1, two, ne)) in
-                    let one = some_signature ss (drop 5 xs) only.bytes more_bytes in
-                    let long = entries_long k 0 ss in
-                    ∣ inr (record {
-                      coded = subst (λ (c : ℕ). Coded c) (sym coded) known;
-                      some_heads = few_heads.0;
-                      few_heads = few_heads.1;
-                      some_entries = omega (arith, found.2);
-                      few_entries = omega (arith, found.2, only.few);
-                      each = subst (λ (rs : List Entry). Each (EntryWithin (get_or head 1 0)) rs) (sym front) (entries_within k (get_or head 1 0) 0 ss only.within);
-                      rise = subst (λ (rs : List Entry). EntriesRise 0 0 rs) (sym front) (entries_rise k 0 0 ss only.rising);
-                    }) ∣₁
-
-                pub rule_done : (p : Plan) → p.code ≡ get_or head 0 0 → p.heads ≡ get_or head 1 0 → p.count ≡ count → p.entries ≡ entries → PlanLeft (rule code k room xs) s (Ok p) new
-                rule_done p a b c d =
-                    let ss = found.0 in
-                    let end : (rule code k room xs).end ≡ Ok (sheet head ss) = ap (λ o. o.end) all ∙ ap (mapped (sheet head)) found.1 in
-                    record {
-                      made = subst (λ (r : Result (Sheet T) Fault). Made r (Ok p)) (sym end) (record {
-                        code_is = a;
-                        heads_is = b;
-                        count_is = c ∙ sym found.2;
-                        entries_are = d ∙ found.3 ∙ ap (λ zs. entries_of 0 ss ++ zs) (drop-replicate (length (entries_of 0 ss)) most_signatures blank);
-                      });
-                      store_is = h.read.store_is ∙ ap (λ o. put 0 o.tests s) (sym all);
-                    }
+      pub rule_done : (p : Plan) → p.code ≡ get_or head 0 0 → p.heads ≡ get_or head 1 0 → p.count ≡ count → p.entries ≡ entries → PlanLeft (rule code k room xs) s (Ok p) new
+      rule_done p a b c d =
+          let ss = found.0 in
+          let end : (rule code k room xs).end ≡ Ok (sheet head ss) = ap (λ o. o.end) all ∙ ap (mapped (sheet head)) found.1 in
+          record {
+            made = subst (λ (r : Result (Sheet T) Fault). Made r (Ok p)) (sym end) (record {
+              code_is = a;
+              heads_is = b;
+              count_is = c ∙ sym found.2;
+              entries_are = d ∙ found.3 ∙ ap (λ zs. entries_of 0 ss ++ zs) (drop-replicate (length (entries_of 0 ss)) most_signatures blank);
+            });
+            store_is = h.read.store_is ∙ ap (λ o. put 0 o.tests s) (sym all);
+          }

@@ -1,4 +1,5 @@
 pub mod Puts
+pub mod Filling
 pub mod Tracks
 pub mod Signs
 pub mod Turns

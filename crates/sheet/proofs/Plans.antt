@@ -18,6 +18,14 @@ use Rattle.sheet.specs.Plans.{blank, Kept}
 use Rattle.sheet.specs.Filled.{SaysSheet}
 use Rattle.sheet.specs.Said.{pieces, signature_said, said}
 
+-- an entry whose figures are all 0 is the blank one
+pub blank_is : (e : Entry) → (e.name ≡ 0) × ((e.tracks ≡ 0) × ((e.frames ≡ 0) × (e.first ≡ 0))) → e ≡ blank
+blank_is e h =
+    ap (λ v. record { name = v; tracks = e.tracks; frames = e.frames; first = e.first }) h.0
+    ∙ ap (λ v. record { name = 0; tracks = v; frames = e.frames; first = e.first }) h.1.0
+    ∙ ap (λ v. record { name = 0; tracks = 0; frames = v; first = e.first }) h.1.1.0
+    ∙ ap (λ v. record { name = 0; tracks = 0; frames = 0; first = v }) h.1.1.1
+
 -- a plan has at most as many entries as there may be signatures
 pub few_entries : (code heads count : ℕ) (entries : List Entry) → Kept code heads count entries → count ≤ most_signatures
 few_entries code heads count entries kept =

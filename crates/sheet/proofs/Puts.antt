@@ -1,6 +1,7 @@
 -- Tests put into a store, one more, and some after others. Assumes nothing.
-use Rattle.std.proofs.Common.{◌≡◌, ℕ, ◌+◌, ◌<◌, ◌≤◌, List, [], ◌∷◌, ◌++◌, length, take, drop, set, Ok, Err, Result, sym, refl, ap, ◌∙◌, arith}
-use Rattle.std.proofs.lemmas.List.{append-nil, append_assoc, length-append, length-drop, length-take-le, take-append-drop, take_more_set, drop-set-lt, drop-drop, take_at, drop_at}
+use Rattle.std.proofs.Common.{◌≡◌, ℕ, ◌+◌, ◌<◌, ◌≤◌, List, [], ◌∷◌, ◌++◌, length, take, drop, set, Ok, Err, Result, sym, refl, ap, ◌∙◌, zero-add, arith}
+use borrow.Rule.Slice.PartMut.{put_mid, same_len_mid}
+use Rattle.std.proofs.lemmas.List.{append-nil, append_assoc, length-append, length-drop, length-take-le, take-append-drop, drop-append-le, take_more_set, drop-set-lt, drop-drop, take_at, drop_at}
 use Rattle.sheetfile.specs.declared.fault.Fault.{Fault}
 use Rattle.sheetfile.specs.Outcomes.{Outcome, stop, on, into, after, chain}
 use Rattle.sheetfile.proofs.Outcomes.{told_ok, told_err}
@@ -19,11 +20,6 @@ module _ {T : Type 0} where
       ∙ sym (append_assoc (take n s) (t ∷ []) (ts ++ drop m s))
       ∙ ap (λ xs. xs ++ (ts ++ drop m s)) (sym e1)
       ∙ ap (λ xs. take (n + 1) (set s n t) ++ (ts ++ xs)) (sym e2)
-
-  pub length_put : (n : ℕ) (ts s : List T) → n + length ts ≤ length s → length (put n ts s) ≡ length s
-  length_put n ts s h =
-      length-append (take n s) (ts ++ drop (n + length ts) s)
-      ∙ omega (arith, length-take-le n s (omega arith), length-append ts (drop (n + length ts) s), length-drop (n + length ts) s)
 
   pub put_put : (n : ℕ) (ts us s : List T) → n + length ts ≤ length s → put n (ts ++ us) s ≡ put (n + length ts) us (put n ts s)
   put_put n ts us s h =
@@ -61,10 +57,6 @@ module _ {T : Type 0} where
           store_is = sym (put_none n' s') ∙ ap (λ q. put n' q.tests s') (sym e) ∙ h.store_is;
         }
 
-    -- where a part has all that is left
-    pub same_left : {o' : Outcome T A} {n' : ℕ} {s' : List T} {r : Result A Fault} {new : List T} → Same o n s o' n' s' → Left o' n' s' r new → Left o n s r new
-    same_left h l = record { answer = l.answer ∙ h.answer; store_is = l.store_is ∙ h.store_is }
-
     -- one test more
     pub same_test : {o' o'' : Outcome T A} {n' : ℕ} {s' : List T} (t : T) → Same o n s o' n' s' → n' < length s' → o' ≡ record { tests = t ∷ o''.tests; end = o''.end } → Same o n s o'' (n' + 1) (set s' n' t)
     same_test {o'' = o''} {n' = n'} {s' = s'} t h l e =
@@ -97,6 +89,25 @@ module _ {T A B X Y : Type 0} {o : Outcome T Y} {n : ℕ} {s : List T} {n' : ℕ
         answer = sym (ap (λ q. q.end) step) ∙ so.answer;
         store_is = part.store_is ∙ ap (λ ts. put n' ts s') (sym (append-nil a.tests)) ∙ ap (λ q. put n' q.tests s') (sym step) ∙ so.store_is;
       }
+
+-- tests put into a part of a store, and the whole store then
+module _ {T : Type 0} (a n : ℕ) (s new : List T) where
+  pub length_mid : a + n ≤ length s → length new ≡ length (take n (drop a s)) → length (put_mid a n s new) ≡ length s
+  length_mid fits kept = same_len_mid a n s new kept
+
+  put_in_part : (ts : List T) → a + n ≤ length s → new ≡ put 0 ts (take n (drop a s)) → length new ≡ length (take n (drop a s)) → put_mid a n s new ≡ put a ts s
+  put_in_part ts fits is kept =
+      let rest = drop a s in
+      let part = take n rest in
+      let size : length part ≡ n = length-take-le n rest (omega (arith, length-drop a s)) in
+      let now : new ≡ ts ++ drop (length ts) part = is ∙ ap (λ l. ts ++ drop l part) (zero-add (length ts)) in
+      let few : length ts ≤ length part = omega (arith, ap length now, length-append ts (drop (length ts) part), length-drop (length ts) part) in
+      let more : drop (length ts) part ++ drop n rest ≡ drop (length ts) rest = sym (drop-append-le (length ts) part (drop n rest) few) ∙ ap (drop (length ts)) (take-append-drop n rest) in
+      ap (λ ys. take a s ++ (ys ++ drop n rest)) now
+      ∙ ap (λ ys. take a s ++ ys) (append_assoc ts (drop (length ts) part) (drop n rest) ∙ ap (λ ys. ts ++ ys) (more ∙ drop-drop (length ts) a s))
+
+  pub left_part : {A : Type 0} {o : Outcome T A} {r : Result A Fault} → a + n ≤ length s → length new ≡ length (take n (drop a s)) → Left o 0 (take n (drop a s)) r new → Left o a s r (put_mid a n s new)
+  left_part {o = o} fits kept h = record { answer = h.answer; store_is = put_in_part o.tests fits h.store_is kept }
 
 -- the same fault, by another term
 pub stopped : {T A : Type 0} {o : Outcome T A} {e : Fault} (d : Fault) → d ≡ e → o ≡ stop e → o ≡ stop d

@@ -1,121 +1,113 @@
--- Reading a signature: its checks one by one, and what its tracks come to. Assumes the laws of the kind.
-use Rattle.std.proofs.Common.{◌≡◌, ℕ, ◌+◌, ◌-◌, ◌*◌, ◌<◌, ◌≤◌, true, false, not, eqb, ltb, List, length, get_or, take, drop, Ok, Err, sym, refl, ap, ◌∙◌}
-use Rattle.std.proofs.lemmas.Bool.{lt-ltb, le-ltb, not_from_true, not_from_false}
-use Rattle.std.proofs.lemmas.List.{take_rest}
+-- Reading the signature of a field: two of its checks, and what its tracks come to where all hold. Assumes nothing.
+use Rattle.std.proofs.Common.{◌≡◌, ℕ, ◌+◌, ◌*◌, ◌≤◌, true, false, not, eqb, ltb, List, ◌++◌, length, get_or, take, drop, Ok, Err, refl, ap, ◌∙◌, sym, arith}
+use Rattle.std.proofs.lemmas.Bool.{le-ltb, not_from_true, not_from_false}
+use Rattle.std.proofs.lemmas.List.{length-drop, get_or-drop, drop-drop}
 use Rattle.kinds.specs.Bytes.{word}
 use Rattle.kinds.specs.Codings.{Coding}
-use Rattle.sheetfile.specs.declared.fault.Cause.TheVariants.{Length, Tracks, Frames, Name, Store}
+use Rattle.sheetfile.specs.declared.fault.Cause.TheVariants.{Length, Tracks, Frames, Store}
 use Rattle.sheetfile.specs.declared.fault.Fault.{Fault}
 use Rattle.sheetfile.specs.Card.{fault}
 use Rattle.sheetfile.specs.Limits.{least_frames, most_frames, within}
 use Rattle.sheetfile.specs.Sheets.{Signature}
 use Rattle.sheetfile.specs.Outcomes.{Outcome, stop, check, mapped, into, bare}
 use Rattle.sheetfile.specs.Reading.{track_size, tracks_read, signature_read}
-use Rattle.sheetfile.proofs.Outcomes.{held, caught, is_not, isnt, told_ok, told_err}
+use Rattle.sheetfile.proofs.Outcomes.{held, caught, is_not, told_ok, told_err}
 use Rattle.sheetfile.proofs.First.{tracks_count}
 use Rattle.sheet.specs.Stored.{Left}
 use Rattle.sheet.specs.Entries.{entry}
-use Rattle.sheet.proofs.Puts.{left_is}
+use Rattle.sheet.proofs.Puts.{left_is, left_part}
 
-module _ {T : Type 0} (k : Coding T) (room heads least used at : ℕ) (body : List ℕ) where
-  abbrev name : ℕ
-  name = word body 0
-
+module _ {T : Type 0} (k : Coding T) (room heads least used at : ℕ) (xs : List ℕ) where
   abbrev n : ℕ
-  n = get_or body 2 0
+  n = get_or xs 5 0
 
   abbrev m : ℕ
-  m = get_or body 3 0
+  m = get_or xs 6 0
 
-  abbrev tracks : Outcome T (List (List T))
-  tracks = tracks_read k m n (at + 7) (drop 4 body)
+  abbrev body : List ℕ
+  body = drop 3 xs
 
-  abbrev sig : List (List T) → Signature T
-  sig tss = record { name = name; frames = m; tracks = tss }
+  abbrev sign : ℕ → ℕ → List (List T) → Signature T
+  sign name frames tss = record { name = name; frames = frames; tracks = tss }
 
   abbrev r6 : Outcome T (Signature T)
-  r6 = into sig tracks
+  r6 = into (sign (word body 0) (get_or body 3 0)) (tracks_read k (get_or body 3 0) (get_or body 2 0) (at + 7) (drop 4 body))
 
   abbrev r5 : Outcome T (Signature T)
-  r5 = check (ltb room (used + n * m)) (fault Store at) r6
+  r5 = check (ltb room (used + get_or body 2 0 * get_or body 3 0)) (fault Store at) r6
 
   abbrev r4 : Outcome T (Signature T)
-  r4 = check (not (eqb (length body) (4 + n * track_size k m))) (fault Length at) r5
+  r4 = check (not (eqb (length body) (4 + get_or body 2 0 * track_size k (get_or body 3 0)))) (fault Length at) r5
 
   abbrev r3 : Outcome T (Signature T)
-  r3 = check (not (within least_frames most_frames m)) (fault Frames (at + 6)) r4
+  r3 = check (not (within least_frames most_frames (get_or body 3 0))) (fault Frames (at + 6)) r4
 
   abbrev r2 : Outcome T (Signature T)
-  r2 = check (not (within 1 heads n)) (fault Tracks (at + 5)) r3
-
-  abbrev r1 : Outcome T (Signature T)
-  r1 = check (ltb name least) (fault Name (at + 3)) r2
+  r2 = check (not (within 1 heads (get_or body 2 0))) (fault Tracks (at + 5)) r3
 
   abbrev all : Outcome T (Signature T)
   all = signature_read k room heads least used at body
 
-  pub signature_short : length body < 4 → all ≡ stop (fault Length at)
-  signature_short h = caught _ r1 _ (lt-ltb (length body) 4 h)
+  -- the bytes of the body, as the field has them
+  byte : (i : ℕ) → get_or body i 0 ≡ get_or xs (3 + i) 0
+  byte i = get_or-drop 3 xs i 0
 
-  module _ (long : 4 ≤ length body) where
-    p1 : all ≡ r1
-    p1 = held _ r1 _ (le-ltb (length body) 4 long)
+  name_is : word body 0 ≡ word xs 3
+  name_is = omega (arith, byte 0, byte 1)
 
-    pub signature_low : name < least → all ≡ stop (fault Name (at + 3))
-    signature_low h = p1 ∙ caught _ r2 _ (lt-ltb name least h)
+  module _ (long : 7 ≤ length xs) (high : least ≤ word xs 3) where
+    p2 : all ≡ r2
+    p2 = held _ _ _ (le-ltb (length body) 4 (omega (arith, length-drop 3 xs))) ∙ held _ r2 _ (le-ltb (word body 0) least (omega (arith, name_is)))
 
-    module _ (high : least ≤ name) where
-      p2 : all ≡ r2
-      p2 = p1 ∙ held _ r2 _ (le-ltb name least high)
+    pub signature_tracks : within 1 heads n ≡ false → all ≡ stop (fault Tracks (at + 5))
+    signature_tracks h = p2 ∙ caught _ r3 _ (not_from_false (within 1 heads (get_or body 2 0)) (ap (within 1 heads) (byte 2) ∙ h))
 
-      pub signature_tracks : within 1 heads n ≡ false → all ≡ stop (fault Tracks (at + 5))
-      signature_tracks h = p2 ∙ caught _ r3 _ (not_from_false (within 1 heads n) h)
+    module _ (some : within 1 heads n ≡ true) where
+      p3 : all ≡ r3
+      p3 = p2 ∙ held _ r3 _ (not_from_true (within 1 heads (get_or body 2 0)) (ap (within 1 heads) (byte 2) ∙ some))
 
-      module _ (some : within 1 heads n ≡ true) where
-        p3 : all ≡ r3
-        p3 = p2 ∙ held _ r3 _ (not_from_true (within 1 heads n) some)
+      pub signature_frames : within least_frames most_frames m ≡ false → all ≡ stop (fault Frames (at + 6))
+      signature_frames h = p3 ∙ caught _ r4 _ (not_from_false (within least_frames most_frames (get_or body 3 0)) (ap (within least_frames most_frames) (byte 3) ∙ h))
 
-        pub signature_frames : within least_frames most_frames m ≡ false → all ≡ stop (fault Frames (at + 6))
-        signature_frames h = p3 ∙ caught _ r4 _ (not_from_false (within least_frames most_frames m) h)
+      module _ (deep : within least_frames most_frames m ≡ true) (size : length xs ≡ 7 + n * track_size k m) (fits : used + n * m ≤ room) where
+        sized : length body ≡ 4 + get_or body 2 0 * track_size k (get_or body 3 0)
+        sized = omega (arith, length-drop 3 xs, size, ap (λ v. v * track_size k m) (byte 2), ap (λ v. get_or body 2 0 * track_size k v) (byte 3))
 
-        module _ (deep : within least_frames most_frames m ≡ true) where
-          p4 : all ≡ r4
-          p4 = p3 ∙ held _ r4 _ (not_from_true (within least_frames most_frames m) deep)
+        count_is : get_or body 2 0 * get_or body 3 0 ≡ n * m
+        count_is = ap (λ v. v * get_or body 3 0) (byte 2) ∙ ap (λ v. n * v) (byte 3)
 
-          pub signature_size : (length body ≡ 4 + n * track_size k m → ⊥) → all ≡ stop (fault Length at)
-          signature_size h = p4 ∙ caught _ r5 _ (isnt (length body) (4 + n * track_size k m) h)
+        passed : all ≡ r6
+        passed =
+            p3
+            ∙ held _ r4 _ (not_from_true (within least_frames most_frames (get_or body 3 0)) (ap (within least_frames most_frames) (byte 3) ∙ deep))
+            ∙ held _ r5 _ (is_not (length body) (4 + get_or body 2 0 * track_size k (get_or body 3 0)) sized)
+            ∙ held _ r6 _ (le-ltb room (used + get_or body 2 0 * get_or body 3 0) (omega (arith, count_is)))
 
-          module _ (size : length body ≡ 4 + n * track_size k m) where
-            p5 : all ≡ r5
-            p5 = p4 ∙ held _ r5 _ (is_not (length body) (4 + n * track_size k m) size)
+        -- the tracks, as the code has what is left of the bytes and of the store
+        module _ (rest : List ℕ) (is : rest ≡ drop 7 xs) (p : ℕ) (there : p ≡ at + 7) (free new : List T) (few : n * m ≤ length free) (kept : length new ≡ length (take (n * m) free)) where
+          abbrev read : Outcome T (List (List T))
+          read = tracks_read k m n p rest
 
-            pub signature_full : room < used + n * m → all ≡ stop (fault Store at)
-            signature_full h = p5 ∙ caught _ r6 _ (lt-ltb room (used + n * m) h)
+          same : into (entry used) all ≡ into (entry used) (into (sign (word xs 3) m) read)
+          same =
+              ap (into (entry used))
+              (passed
+              ∙ ap (λ v. into (sign v (get_or body 3 0)) (tracks_read k (get_or body 3 0) (get_or body 2 0) (at + 7) (drop 4 body))) name_is
+              ∙ ap (λ v. into (sign (word xs 3) v) (tracks_read k v (get_or body 2 0) (at + 7) (drop 4 body))) (byte 3)
+              ∙ ap (λ v. into (sign (word xs 3) m) (tracks_read k m v (at + 7) (drop 4 body))) (byte 2)
+              ∙ ap (λ q. into (sign (word xs 3) m) (tracks_read k m n q (drop 4 body))) (sym there)
+              ∙ ap (λ ys. into (sign (word xs 3) m) (tracks_read k m n p ys)) (drop-drop 4 3 xs ∙ sym is))
 
-            module _ (fits : used + n * m ≤ room) where
-              p6 : all ≡ r6
-              p6 = p5 ∙ held _ r6 _ (le-ltb room (used + n * m) fits)
+          pub signature_broke : (e : Fault) → Left (bare read) 0 (take (n * m) free) (Err e) new → Left (into (entry used) all) 0 free (Err e) (new ++ drop (n * m) free)
+          signature_broke e part =
+              let q = told_err (λ tss. tt) read.end e part.answer in
+              let end = ap (λ r. record { tests = read.tests; end = mapped (entry used) (mapped (sign (word xs 3) m) r) }) q in
+              left_part 0 (n * m) free new (omega (arith, few)) kept (left_is (same ∙ end) (record { answer = refl; store_is = part.store_is }))
 
-              -- the tracks, as the code has what is left
-              abbrev read : Outcome T (List (List T))
-              read = tracks_read k m n (at + 7) (take (length body - 4) (drop 4 body))
-
-              same : read ≡ tracks
-              same = ap (tracks_read k m n (at + 7)) (take_rest body 4)
-
-              pub signature_broke : (e : Fault) (s new : List T) → Left (bare read) used s (Err e) new → Left (into (entry used) all) used s (Err e) new
-              signature_broke e s new part =
-                  let q = told_err (λ tss. tt) read.end e part.answer in
-                  let is : into (entry used) all ≡ record { tests = read.tests; end = Err e } =
-                  ap (into (entry used)) p6 ∙ ap (λ o. into (entry used) (into sig o)) (sym same) ∙ ap (λ r. record { tests = read.tests; end = mapped (entry used) (mapped sig r) }) q in
-                  left_is is (record { answer = refl; store_is = part.store_is })
-
-              pub signature_done : (s new : List T) (nm : ℕ) → nm ≡ name → Left (bare read) used s (Ok tt) new → Left (into (entry used) all) used s (Ok (record { name = nm; tracks = n; frames = m; first = used })) new
-              signature_done s new nm named part =
-                  let q = told_ok (λ tss. tt) read.end tt part.answer in
-                  let count = tracks_count k m n (at + 7) (take (length body - 4) (drop 4 body)) q.0 q.1 in
-                  let is : into (entry used) all ≡ record { tests = read.tests; end = Ok (record { name = nm; tracks = n; frames = m; first = used }) } =
-                  ap (into (entry used)) p6 ∙ ap (λ o. into (entry used) (into sig o)) (sym same) ∙ ap (λ r. record { tests = read.tests; end = mapped (entry used) (mapped sig r) }) q.1
-                  ∙ ap (λ l. record { tests = read.tests; end = Ok (record { name = name; tracks = l; frames = m; first = used }) }) count
-                  ∙ ap (λ l. record { tests = read.tests; end = Ok (record { name = l; tracks = n; frames = m; first = used }) }) (sym named) in
-                  left_is is (record { answer = refl; store_is = part.store_is })
+          pub signature_done : (nm : ℕ) → nm ≡ word xs 3 → Left (bare read) 0 (take (n * m) free) (Ok tt) new → Left (into (entry used) all) 0 free (Ok (record { name = nm; tracks = n; frames = m; first = used })) (new ++ drop (n * m) free)
+          signature_done nm named part =
+              let q = told_ok (λ tss. tt) read.end tt part.answer in
+              let end = ap (λ r. record { tests = read.tests; end = mapped (entry used) (mapped (sign (word xs 3) m) r) }) q.1
+              ∙ ap (λ l. record { tests = read.tests; end = Ok (record { name = word xs 3; tracks = l; frames = m; first = used }) }) (tracks_count k m n p rest q.0 q.1)
+              ∙ ap (λ l. record { tests = read.tests; end = Ok (record { name = l; tracks = n; frames = m; first = used }) }) (sym named) in
+              left_part 0 (n * m) free new (omega (arith, few)) kept (left_is (same ∙ end) (record { answer = refl; store_is = part.store_is }))

@@ -2,6 +2,7 @@
 #![tactic(auto)]
 
 pub mod entry;
+mod part;
 pub mod plan;
 mod read;
 mod signature;

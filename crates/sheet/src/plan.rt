@@ -6,10 +6,9 @@ use sheetfile::limits::MOST_SIGNATURES;
 
 mod calls;
 
-pub(crate) use calls::BLANK;
-
 // The empty plan, or the figures of a sheet within all limits: code of the kind, number of heads,
 // and for each signature its entry. The entries past `count` are blank.
+// It is in fixed memory and copied: an array with a count, since the kit's vectors are not `Copy`.
 #[derive(Clone, Copy)]
 pub struct Plan {
     code: u8,

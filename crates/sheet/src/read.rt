@@ -4,15 +4,16 @@ ghost use Rattle.sheetfile.specs.Reading.{rule};
 ghost use Rattle.sheet.specs.Filled.{PlanLeft, SheetLeft};
 ghost use Rattle.sheet.specs.Said.{Verdict};
 
-use crate::plan::{BLANK, Plan};
-use crate::signature::is_within;
-use crate::signatures::read_signatures;
+use crate::entry::Entry;
+use crate::plan::Plan;
+use crate::signatures::{HEAD_SIZE, read_signatures};
 use kinds::kind::Kind;
 use sheetfile::fault::{Cause, Fault};
 use sheetfile::field::{Tag, body_of};
 use sheetfile::limits::{MOST_HEADS, MOST_SIGNATURES};
 
 // The plan of the sheet in `bytes`; its tests go into the store.
+#[tactic(auto, unfolding(sheetfile::specs::Reading::rule))]
 fn read_plan<K: Kind>(kind: K, bytes: &[u8], store: &mut [K::Test]) -> Result<Plan, Fault>
     ensures { PlanLeft (rule K.facts.code K.facts.tests (length store.old) bytes.now) store.old result store.new }
 {
@@ -20,17 +21,17 @@ fn read_plan<K: Kind>(kind: K, bytes: &[u8], store: &mut [K::Test]) -> Result<Pl
     let [code, heads] = head else {
         return Err(Cause::Length.at(0));
     };
-    if *code != kind.kind_code() {
+    if *code != K::CODE {
         return Err(Cause::Kind.at(3));
     }
-    if !is_within(1, MOST_HEADS, *heads as usize) {
+    if !(1..=MOST_HEADS).contains(&(*heads as usize)) {
         return Err(Cause::Heads.at(4));
     }
-    if bytes.len() == 5 {
-        return Err(Cause::Bare.at(5));
+    if bytes.len() == HEAD_SIZE {
+        return Err(Cause::Bare.at(HEAD_SIZE));
     }
-    let mut entries = [BLANK; MOST_SIGNATURES];
-    let count = read_signatures(kind, &bytes[5..], 5, *heads as usize, &mut entries, store)?;
+    let mut entries = [Entry::default(); MOST_SIGNATURES];
+    let count = read_signatures(kind, bytes, *heads as usize, &mut entries, store)?;
     Ok(Plan::with(*code, *heads, count, entries))
 }
 

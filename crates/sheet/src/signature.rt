@@ -1,66 +1,63 @@
 // Reading one signature.
-ghost use Rattle.std.specs.Prelude.{◌≡◌, ℕ, ◌+◌, ◌*◌, ◌^◌, ◌<◌, ◌≤◌, length};
-ghost use Rattle.sheetfile.specs.Limits.{within, most_heads};
+ghost use Rattle.std.specs.Prelude.{◌≡◌, ◌+◌, ◌*◌, length, drop};
 ghost use Rattle.sheetfile.specs.Outcomes.{into};
 ghost use Rattle.sheetfile.specs.Reading.{signature_read};
 ghost use Rattle.sheet.specs.Entries.{entry};
 ghost use Rattle.sheet.specs.Stored.{Left};
 
 use crate::entry::Entry;
+use crate::part::Part;
 use crate::track::read_tracks;
 use kinds::kind::Kind;
 use sheetfile::fault::{Cause, Fault};
+use sheetfile::field::FIELD_START;
 use sheetfile::limits::{LEAST_FRAMES, MOST_FRAMES};
 
-// Whether n is low to high, both ends within.
-pub(crate) fn is_within(low: usize, high: usize, n: usize) -> bool
-    ensures { result ≡ within low high n }
-{
-    low <= n && n <= high
+// Where the next signature begins: its least name, and its first test in the store.
+#[derive(Clone, Copy)]
+pub(crate) struct Next {
+    pub(crate) least: usize,
+    pub(crate) first: usize,
 }
 
-// Reads the signature with this body, whose field stands at `at`: its name is `least` or above,
-// and its tests go into the store from `used` on.
+// Reads the signature of this field; its tests go to the front of `free`, which is left of the store.
 pub(crate) fn read_signature<K: Kind>(
     kind: K,
-    body: &[u8],
-    at: usize,
+    field: Part<'_>,
     heads: usize,
-    least: usize,
-    store: &mut [K::Test],
-    used: usize,
+    next: Next,
+    free: &mut [K::Test],
 ) -> Result<Entry, Fault>
-    requires few { heads ≤ most_heads }
-    requires room { used ≤ length store.old }
-    requires near { at + (3 + length body.now) < 2 ^ 64 }
-    ensures { Left (into (entry used) (signature_read K.facts.tests (length store.old) heads least used at body.now)) used store.old result store.new }
+    ensures { Left (into (entry next.first) (signature_read K.facts.tests (next.first + length free.old) heads next.least next.first field.entry.at (drop 3 field.entry.bytes.now))) 0 free.old result free.new }
 {
-    let [high, low, tracks, frames, rest @ ..] = body else {
-        return Err(Cause::Length.at(at));
+    let [_, _, _, high, low, tracks, frames, ..] = field.bytes else {
+        return Err(Cause::Length.at(field.at));
     };
     let name = u16::from_be_bytes([*high, *low]);
-    if (name as usize) < least {
-        return Err(Cause::Name.at(at + 3));
+    if (name as usize) < next.least {
+        return Err(Cause::Name.at(field.at + 3));
     }
     let n = *tracks as usize;
-    if !is_within(1, heads, n) {
-        return Err(Cause::Tracks.at(at + 5));
+    if !(1..=heads).contains(&n) {
+        return Err(Cause::Tracks.at(field.at + 5));
     }
     let m = *frames as usize;
-    if !is_within(LEAST_FRAMES, MOST_FRAMES, m) {
-        return Err(Cause::Frames.at(at + 6));
+    if !(LEAST_FRAMES..=MOST_FRAMES).contains(&m) {
+        return Err(Cause::Frames.at(field.at + 6));
     }
-    if body.len() != 4 + n * (3 + m * kind.test_width()) {
-        return Err(Cause::Length.at(at));
+    let size = FIELD_START + m * K::W;
+    if field.bytes.len() != FIELD_START + 4 + n * size {
+        return Err(Cause::Length.at(field.at));
     }
-    if store.len() - used < n * m {
-        return Err(Cause::Store.at(at));
+    if free.len() < n * m {
+        return Err(Cause::Store.at(field.at));
     }
-    read_tracks(kind, rest, at + 7, n, m, store, used)?;
+    let rest = field.behind(FIELD_START + 4);
+    read_tracks(kind, rest, n, m, &mut free[..n * m])?;
     Ok(Entry {
         name,
         tracks: *tracks,
         frames: *frames,
-        first: used,
+        first: next.first,
     })
 }

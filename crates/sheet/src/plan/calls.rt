@@ -7,14 +7,6 @@ use crate::entry::Entry;
 use crate::plan::Plan;
 use sheetfile::limits::MOST_SIGNATURES;
 
-// What stands in a plan where there is no signature.
-pub(crate) const BLANK: Entry = Entry {
-    name: 0,
-    tracks: 0,
-    frames: 0,
-    first: 0,
-};
-
 impl Plan {
     // The plan of no sheet.
     pub fn empty() -> Plan
@@ -24,14 +16,17 @@ impl Plan {
             code: 0,
             heads: 0,
             count: 0,
-            entries: [BLANK; MOST_SIGNATURES],
+            entries: [Entry::default(); MOST_SIGNATURES],
         }
     }
 
     // The plan with these figures, which keep all limits.
     pub(crate) fn with(code: u8, heads: u8, count: usize, entries: [Entry; MOST_SIGNATURES]) -> Plan
         requires { Kept code heads count entries }
-        ensures { (result.code ≡ code) × (result.heads ≡ heads) × (result.count ≡ count) × (result.entries ≡ entries) }
+        ensures code { result.code ≡ code }
+        ensures heads { result.heads ≡ heads }
+        ensures count { result.count ≡ count }
+        ensures entries { result.entries ≡ entries }
     {
         Plan {
             code,
@@ -66,7 +61,6 @@ impl Plan {
     pub fn entries(&self) -> &[Entry]
         ensures { result.now ≡ take self.now.count self.now.entries }
     {
-        let count = self.count;
-        &self.entries[0..count]
+        &self.entries[..self.count]
     }
 }

@@ -1,24 +1,15 @@
-use Rattle.std.proofs.Common.{Ok, Err, arith}
+use Rattle.std.proofs.Common.{Ok, Err, arith, rules}
 use Rattle.std.proofs.lemmas.Result.{err_from_is_err_and}
 use Rattle.sheet.proofs.Turns.{bytes_of}
-use Rattle.sheet.proofs.Heads.{sheet_ok, sheet_err}
 use Rattle.sheet.proofs.Verdicts.{verdict}
 use Rattle.sheet.proofs.read.read_sheet.Goals as goal
 
-pub returns-in_err-plan : goal.returns-in_err-plan
-returns-in_err-plan g c =
+pub returns-in_err-plan-clause-whole : goal.returns-in_err-plan-clause-whole
+returns-in_err-plan-clause-whole g c =
     let p = err_from_is_err_and c.from_residual.result c.from_residual.ensures.1 in
-    let o = sheet_err c.in_err-plan.field-0.0 c.empty.result c.empty.ensures c.in_err-plan.ensures in
     rw (p.1, p.2)
-    (record {
-      whole = verdict g.K.Kind.facts.code g.K.Kind.facts.tests g.met.K.Kind.tests c.args.bytes.now (bytes_of c.args.bytes.now (λ i. let f = c.type_inv.bytes i in omega arith)) c.args.store.now c.empty.result c.read_plan.new.store (Err c.in_err-plan.field-0.0) o;
-      fixed = o;
-    })
+    (verdict g.K.Kind.facts.code g.K.Kind.facts.tests g.met.K.Kind.tests c.args.bytes.now (bytes_of c.args.bytes.now (λ i. let f = c.type_inv.bytes i in omega arith)) c.args.store.now c.empty.result c.read_plan.new.store (Err c.in_err-plan.field-0.0) (search rules))
 
-pub returns : goal.returns
-returns g c =
-    let o = sheet_ok c.in_ok-plan.field-0 c.in_ok-plan.ensures in
-    record {
-      whole = verdict g.K.Kind.facts.code g.K.Kind.facts.tests g.met.K.Kind.tests c.args.bytes.now (bytes_of c.args.bytes.now (λ i. let f = c.type_inv.bytes i in omega arith)) c.args.store.now c.in_ok-plan.field-0 c.read_plan.new.store (Ok tt) o;
-      fixed = o;
-    }
+pub returns-clause-whole : goal.returns-clause-whole
+returns-clause-whole g c =
+    verdict g.K.Kind.facts.code g.K.Kind.facts.tests g.met.K.Kind.tests c.args.bytes.now (bytes_of c.args.bytes.now (λ i. let f = c.type_inv.bytes i in omega arith)) c.args.store.now c.in_ok-plan.field-0 c.read_plan.new.store (Ok tt) (search rules)

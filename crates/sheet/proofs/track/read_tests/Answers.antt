@@ -1,30 +1,26 @@
-use Rattle.std.proofs.Common.{take, sym, ap, ◌∙◌, arith}
-use Rattle.std.proofs.lemmas.List.{length-take-le}
-use Rattle.sheet.proofs.Tracks.{tests_begin, enough, tests_again, tests_break, tests_end}
+use Rattle.std.proofs.Common.{◌≡◌, take, drop, length, ap, ◌∙◌, arith}
+use Rattle.std.proofs.lemmas.List.{set-get_or}
+use Rattle.sheetfile.specs.declared.fault.Cause.TheVariants.{Test}
+use Rattle.sheetfile.specs.Card.{fault}
+use Rattle.sheet.proofs.Filling.{less_long, fill_next, fill_break, fill_end}
 use Rattle.sheet.proofs.track.read_tests.Goals as goal
-
-pub loop-i-init : goal.loop-i-init
-loop-i-init g c = tests_begin _ c.requires.long c.requires.room c.requires.near
-
-pub slice_bounds-read_test-end : goal.slice_bounds-read_test-end
-slice_bounds-read_test-end g c = let h = enough _ c.loop-i.invariant c.loop-i-test.true in sym (length-take-le c.test_width-width.result c.loop-i.rest.now (omega arith))
-
-pub slice_bounds-rest-count : goal.slice_bounds-rest-count
-slice_bounds-rest-count g c = let h = enough _ c.loop-i.invariant c.loop-i-test.true in omega arith
-
-pub slice_bounds-rest-start : goal.slice_bounds-rest-start
-slice_bounds-rest-start g c = let h = enough _ c.loop-i.invariant c.loop-i-test.true in omega arith
-
-pub overflow_add-place : goal.overflow_add-place
-overflow_add-place g c = let h = enough _ c.loop-i.invariant c.loop-i-test.true in omega arith
-
-pub loop-i-preserved : goal.loop-i-preserved
-loop-i-preserved g c =
-    tests_again _ c.test_width-width.result c.test_width-width.ensures c.loop-i.invariant c.loop-i-test.true c.in-Some.test c.in-Some.ensures
 
 pub returns-in_default : goal.returns-in_default
 returns-in_default g c =
-    tests_break _ _ c.at.ensures c.loop-i.invariant c.loop-i-test.true (c.in_default.ensures ∙ ap (λ w. g.K.Kind.facts.tests.reads (take w c.loop-i.rest.now)) c.test_width-width.ensures)
+    let wide : c.W.result ≡ g.K.Kind.facts.tests.width = c.W.ensures ∙ g.met.K.Kind.test_width_is in
+    rw set-get_or
+    (fill_break _ _ _ _ _ c.loop-slot.invariant.filling (omega arith) (omega arith) c.at.result (c.at.ensures ∙ ap (fault Test) c.front-next.ensures.front_at) c.front-next.result.bytes.now (c.front-next.ensures.front ∙ ap (λ w. take w c.loop-slot.tests.bytes.now) wide) c.in_default.ensures)
+
+pub loop-slot-preserved : goal.loop-slot-preserved
+loop-slot-preserved g c =
+    let w = g.K.Kind.facts.tests.width in
+    let wide : c.W.result ≡ w = c.W.ensures ∙ g.met.K.Kind.test_width_is in
+    let rest = c.loop-slot.tests.bytes.now in
+    let goes = c.front-next.ensures.rest ∙ ap (λ w. drop w rest) wide in
+    record {
+      filling = fill_next _ _ _ _ _ c.loop-slot.invariant.filling (omega arith) c.in-Some.test c.front-next.result.bytes.now c.front-next.new.self.bytes.now (c.front-next.ensures.front ∙ ap (λ w. take w rest) wide) goes c.in-Some.ensures c.front-next.new.self.at (λ near. omega arith);
+      long = omega (arith, less_long _ c.loop-slot.slot-index w rest (omega arith) c.loop-slot.invariant.long, ap length goes);
+    }
 
 pub returns : goal.returns
-returns g c = tests_end _ c.loop-i.invariant c.loop-i-test.false
+returns g c = fill_end _ _ _ _ _ c.loop-slot.invariant.filling (omega arith) (omega arith)

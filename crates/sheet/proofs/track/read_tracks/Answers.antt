@@ -1,45 +1,36 @@
-use Rattle.std.proofs.Common.{◌+◌, ◌*◌, ap, arith, rules}
+use Rattle.std.proofs.Common.{◌+◌, ◌*◌, take, drop, ap, ◌∙◌}
 use Rattle.std.proofs.lemmas.Result.{err_from_is_err_and}
-use Rattle.sheet.proofs.Tracks.{tracks_begin, track_long, track_room, tracks_again, tracks_break, tracks_end}
+use Rattle.sheet.proofs.Tracks.{one_part, tracks_begin, track_ready, tracks_again, tracks_break, tracks_end}
 use Rattle.sheet.proofs.track.read_tracks.Goals as goal
 
 pub loop-i-init : goal.loop-i-init
-loop-i-init g c = tracks_begin _ _ _ c.requires.long c.requires.room c.requires.near
+loop-i-init g c = tracks_begin _ _ _ _ _ _ _ c.requires.whole c.requires.room
 
 pub read_track-requires : goal.read_track-requires
 read_track-requires g c =
-    let r = track_room _ _ _ c.loop-i.invariant c.loop-i-test.true in
-    record { few = c.requires.few; long = track_long _ _ _ c.loop-i.invariant c.loop-i-test.true; room = omega arith; near = c.loop-i.invariant.near }
+    let i = c.loop-i.i in
+    let m = c.args.frames in
+    let wide = ap (λ w. take (3 + m * w) c.loop-i.tracks.bytes.now) (c.W.ensures ∙ g.met.K.Kind.test_width_is) in
+    record { whole = track_ready _ _ _ _ _ _ _ c.loop-i.invariant c.loop-i-test.true _ (one_part i m) c.front-track.result.bytes.now (c.front-track.ensures.front ∙ wide) }
 
 pub returns-in_err-read_track : goal.returns-in_err-read_track
 returns-in_err-read_track g c =
+    let i = c.loop-i.i in
+    let m = c.args.frames in
+    let wide = ap (λ w. take (3 + m * w) c.loop-i.tracks.bytes.now) (c.W.ensures ∙ g.met.K.Kind.test_width_is) in
     let p = err_from_is_err_and c.from_residual.result c.from_residual.ensures.1 in
-    rw (p.1, p.2) (tracks_break _ _ _ c.loop-i.invariant c.loop-i-test.true c.in_err-read_track.field-0.0 c.in_err-read_track.ensures)
-
-pub slice_bounds-rest-count : goal.slice_bounds-rest-count
-slice_bounds-rest-count g c =
-    let h = track_long _ _ _ c.loop-i.invariant c.loop-i-test.true in
-    let e = ap (λ w. c.args.frames * w) c.test_width.ensures in
-    omega arith
-
-pub slice_bounds-rest-start : goal.slice_bounds-rest-start
-slice_bounds-rest-start g c =
-    let h = track_long _ _ _ c.loop-i.invariant c.loop-i-test.true in
-    let e = ap (λ w. c.args.frames * w) c.test_width.ensures in
-    omega arith
-
-pub overflow_add-place : goal.overflow_add-place
-overflow_add-place g c =
-    let h = track_long _ _ _ c.loop-i.invariant c.loop-i-test.true in
-    let e = ap (λ w. c.args.frames * w) c.test_width.ensures in
-    omega arith
-
-pub overflow_add-next : goal.overflow_add-next
-overflow_add-next g c = let r = track_room _ _ _ c.loop-i.invariant c.loop-i-test.true in search rules
+    rw (p.1, p.2)
+    (tracks_break _ _ _ _ _ _ _ c.loop-i.invariant c.loop-i-test.true _ (one_part i m) c.front-track.result.bytes.now (c.front-track.ensures.front ∙ wide) c.front-track.result.at c.front-track.ensures.front_at c.read_track.new.out c.read_track.auto.out c.in_err-read_track.field-0.0 c.in_err-read_track.ensures)
 
 pub loop-i-preserved : goal.loop-i-preserved
 loop-i-preserved g c =
-    tracks_again _ _ _ c.loop-i.invariant c.loop-i-test.true _ (ap (λ w. 3 + c.args.frames * w) c.test_width.ensures) c.read_track.auto.store c.in_ok-read_track.ensures
+    let i = c.loop-i.i in
+    let m = c.args.frames in
+    let w = c.W.ensures ∙ g.met.K.Kind.test_width_is in
+    let wide = ap (λ w. take (3 + m * w) c.loop-i.tracks.bytes.now) w in
+    let far = ap (λ w. drop (3 + m * w) c.loop-i.tracks.bytes.now) w in
+    tracks_again _ _ _ _ _ _ _ c.loop-i.invariant c.loop-i-test.true _ (one_part i m) c.front-track.result.bytes.now (c.front-track.ensures.front ∙ wide) c.front-track.result.at c.front-track.ensures.front_at c.read_track.new.out c.read_track.auto.out
+    c.front-track.new.self.bytes.now (c.front-track.ensures.rest ∙ far) c.front-track.new.self.at (c.front-track.ensures.rest_at ∙ ap (λ w. c.loop-i.tracks.at + (3 + m * w)) w) c.in_ok-read_track.ensures
 
 pub returns : goal.returns
-returns g c = tracks_end _ _ _ c.loop-i.invariant c.loop-i-test.false
+returns g c = tracks_end _ _ _ _ _ _ _ c.loop-i.invariant c.loop-i-test.false
