@@ -71,6 +71,7 @@ impl Kind for Band {
         test.bits != 0
     }
 
+    #[tactic(auto, using(crate::specs::BytesLemmas::no_bit))]
     fn passes(self, test: &BandSet, reading: &u8) -> bool {
         let bits = test.bits;
         *reading < 16 && (bits >> *reading) % 2 == 1

@@ -143,6 +143,7 @@ impl Kind for Climate {
         test.moisture.holds(reading.moisture) && test.temperature.holds(reading.temperature)
     }
 
+    #[tactic(auto, using(crate::specs::CodingsLemmas::fixed_answer, crate::specs::BytesLemmas::sized_of))]
     fn read_test(self, bytes: &[u8]) -> Option<ClimateTest> {
         let [a, b, c, d, e, f, g, h] = bytes else {
             return None;

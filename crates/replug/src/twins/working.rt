@@ -39,6 +39,7 @@ pub fn same_answer(one: &Result<Verdict, Refusal>, other: &Result<Verdict, Refus
 
 impl<'p, 's, 't, 'u, K: Kind> Twins<'p, 's, 't, 'u, K> {
     // Two stations of the same plan and tests, each after a gap, from which on they agree.
+    #[tactic(auto, using(crate::proofs::Twinned::twins_begin))]
     pub fn new(
         kind: K,
         order: Order,
