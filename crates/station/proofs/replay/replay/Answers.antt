@@ -4,7 +4,6 @@ use Rattle.station.specs.Working.{called}
 use Rattle.station.proofs.Working.{replay_tells}
 use Rattle.station.proofs.replay.replay.Goals as goal
 
--- by what the contract of `Station::new` says of every list of calls
 pub returns : goal.returns
 returns g c =
     replay_tells g.K.Kind.facts.readings.proper g.K.Kind.facts.passes _ c.args.plan.now c.args.tests.now (map called c.args.calls.now)

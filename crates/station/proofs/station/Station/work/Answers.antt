@@ -7,7 +7,3 @@ loop-call-preserved g c =
     worked_more g.K.Kind.facts.readings.proper g.K.Kind.facts.passes (snap c.args.self.now) (snap c.loop-call.self) _ c.args.calls.now
     c.loop-call.call-index c.call-item.result c.loop-call-test.true c.call-item.is c.loop-call.invariant c.perform.ensures
 
-pub returns : goal.returns
-returns g c =
-    worked_all g.K.Kind.facts.readings.proper g.K.Kind.facts.passes (snap c.args.self.now) (snap c.loop-call.self) c.args.calls.now
-    c.loop-call.call-index c.loop-call-test.false c.loop-call.invariant
