@@ -5,7 +5,7 @@ use Rattle.sheetfile.specs.declared.fault.Fault.{Fault}
 use Rattle.sheetfile.specs.declared.fault.Cause.TheVariants.{LongRun, Reading}
 use Rattle.sheetfile.specs.Card.{fault}
 use Rattle.sheetfile.specs.Outcomes.{mapped}
-use Rattle.runfile.specs.Values.{values_read}
+use Rattle.sheetfile.specs.Values.{values_read}
 use Rattle.runfile.specs.Fields.{Part, framed, gapped, unfinished, run_field, size}
 use Rattle.listing.specs.Events.{Event, frame, gap}
 

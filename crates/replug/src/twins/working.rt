@@ -59,7 +59,7 @@ impl<'p, 's, 't, 'u, K: Kind> Twins<'p, 's, 't, 'u, K> {
     // Feeds the frame to the one, and moved by the plug order, where it is a full frame, to the other. `plugged` has a place
     // for each head.
     pub fn feed(&mut self, frame: &[K::Reading], plugged: &mut [K::Reading]) -> Result<(), Refusal>
-        ensures answer { in_figures (λ u. u) result ≡ feed_answer K.facts.readings.proper self.old.home.heads frame.now }
+        ensures answer { in_figures (λ u. u) result ≡ feed_answer K.facts.readings.proper (snap self.old.home).heads frame.now }
         ensures order { self.new.order ≡ self.old.order }
         ensures kept { length plugged.old ≡ self.old.order.heads → Twinned K.facts.readings.proper K.facts.passes self.old.order (snap self.old.home) (snap self.old.away) → Twinned K.facts.readings.proper K.facts.passes self.old.order (snap self.new.home) (snap self.new.away) }
     {
