@@ -1,5 +1,4 @@
-ghost use Rattle.std.specs.Prelude.{◌≡◌, ◌<◌, ℕ, slice_index};
-ghost use Rattle.std.specs.Bool.{OnTrue};
+ghost use Rattle.std.specs.Prelude.{◌≡◌, ◌<◌, ◌↔◌, ℕ, IsTrue, slice_index};
 ghost use Rattle.matching.specs.Limits.{most_tracks};
 ghost use Rattle.matching.specs.Meaning.{fitting};
 
@@ -38,7 +37,7 @@ impl Fits {
 
     // Is there a track that fits no head?
     pub(crate) fn has_idle_track(&self) -> bool
-        ensures { OnTrue result ((t : ℕ) × (t < self.now.tracks) × (slice_index self.now.rows t ≡ 0)) }
+        ensures { IsTrue result ↔ ((t : ℕ) × (t < self.now.tracks) × (slice_index self.now.rows t ≡ 0)) }
     {
         self.rows[..self.tracks].contains(&0)
     }
