@@ -1,6 +1,6 @@
 // The band kind: a head tells one of sixteen moisture bands, and a test is the set of bands that pass.
-ghost use Rattle.std.specs.Prelude.{◌≡◌, refl};
-ghost use Rattle.kinds.specs.Bands.{band_facts, set_sound, in_set, band_lawful};
+ghost use Rattle.std.specs.Prelude.{◌≡◌, refl, Some};
+ghost use Rattle.kinds.specs.Bands.{bands_text, band_facts, set_sound, in_set, band_lawful};
 ghost use Rattle.kinds.specs.BandsLemmas.{sets_lawful, bands_lawful};
 ghost use Rattle.std.proofs.Common.{rules};
 
@@ -22,11 +22,16 @@ pub struct BandSet {
 
 // As `bands 1, 4`.
 impl fmt::Display for BandSet {
+    ghost output = { λ t. Some (bands_text t 16) };
+
     fn fmt<W: fmt::Write>(&self, f: &mut fmt::Formatter<W>) -> fmt::Result {
-        let bands = (0..=MOST_BAND).filter(|band| (self.bits >> *band) % 2 == 1);
-        for (i, band) in bands.enumerate() {
-            let gap = if i == 0 { "bands " } else { ", " };
-            write!(f, "{gap}{band}")?;
+        let mut first = true;
+        for band in 0..MOST_BAND + 1 {
+            if (self.bits >> band) % 2 == 1 {
+                let gap = if first { "bands " } else { ", " };
+                write!(f, "{gap}{band}")?;
+                first = false;
+            }
         }
         Ok(())
     }
