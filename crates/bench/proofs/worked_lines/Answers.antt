@@ -1,5 +1,6 @@
 use Rattle.std.proofs.Common.{refl}
-use Rattle.sheetfile.specs.Reading.{rule, signatures_read, tracks_read, tests_read}
+use Rattle.sheetfile.specs.Reading.{rule, signatures_read, tracks_read}
+use Rattle.sheetfile.specs.Values.{values_read}
 use Rattle.sheetfile.specs.Encoding.{encode, signature_bytes, signature_body, track_bytes}
 use Rattle.matching.specs.Answer.{answer}
 use Rattle.runs.specs.Verdicts.{verdict}
@@ -8,7 +9,7 @@ use Rattle.bench.specs.StationLines.{StationLines}
 use Rattle.bench.proofs.worked_lines.Goals as goal
 
 sheet_lines : WorkedLines
-unfolding rule signatures_read tracks_read tests_read encode signature_bytes signature_body track_bytes
+unfolding rule signatures_read tracks_read values_read encode signature_bytes signature_body track_bytes
 sheet_lines =
     record {
       reads_301 = refl;
