@@ -1,8 +1,6 @@
-use Rattle.std.proofs.Common.{sym, refl, ◌∙◌, arith}
-use Rattle.std.proofs.lemmas.List.{take_all}
+use Rattle.std.proofs.Common.{◌∙◌, arith}
 use Rattle.ring.specs.Rings.{holds}
-use Rattle.ring.proofs.Tails.{pushed_more, pushed_all}
-use Rattle.ring.proofs.Turn.{length_latest}
+use Rattle.ring.proofs.Tails.{pushed_more}
 use Rattle.ring.proofs.Ring.push_all.Goals as goal
 
 pub loop-item-preserved : goal.loop-item-preserved
@@ -14,4 +12,3 @@ loop-item-preserved g c =
       c.push.ensures.capacity ∙ held.2,
       c.push.ensures.lent ∙ held.3,
     )
-

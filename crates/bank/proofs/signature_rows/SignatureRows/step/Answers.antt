@@ -15,10 +15,11 @@ returns-in_default g c =
     (λ t ts l at. elim (cases_lt t k) [ inl lt ↦ lt | inr ge ↦ absurd (none_after e k t store ts ge (sym c.in_default.ensures) at) ])
 
 pub loop-t-preserved : goal.loop-t-preserved
-loop-t-preserved g c =
-    (simp length-set c.loop-t.invariant.0,
-      moved_more _ c.loop-t.invariant.1 (omega (arith, c.loop-t.invariant.0))
-          (track_turn g.K.Kind.facts.passes c.args.store.now c.args.entry.now c.args.frame.now c.loop-t.t c.in-Some.tests.now c.in-Some.ensures c.step.ensures))
+loop-t-preserved g c = (
+  simp length-set c.loop-t.invariant.0,
+  moved_more _ c.loop-t.invariant.1 (omega (arith, c.loop-t.invariant.0))
+      (track_turn g.K.Kind.facts.passes c.args.store.now c.args.entry.now c.args.frame.now c.loop-t.t c.in-Some.tests.now c.in-Some.ensures c.step.ensures),
+)
 
 pub returns : goal.returns
 returns g c =
