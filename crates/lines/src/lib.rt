@@ -10,7 +10,7 @@ use std::alloc::AllocError;
 use std::fmt;
 use std::io::Write;
 
-// Adds a number in decimal, without leading zeros.
+// Adds a number in decimal, without leading zeros. Writing into a `Vec` fails for want of memory alone.
 pub fn push_decimal(out: &mut Vec<u8>, number: u64) -> Result<(), AllocError>
     ensures { OnOk result (out.new.items ≡ out.old.items ++ decimal number) }
 {
@@ -48,7 +48,7 @@ pub fn push_end(out: &mut Vec<u8>, frames: u32, gaps: u32) -> Result<(), AllocEr
     writeln!(out, " {frames} {gaps}").map_err(|_| AllocError)
 }
 
-// Adds the last line after a fault: its number, layer and place.
+// Adds the last line after a fault: its number, layer and place. Its word is a byte string, as `end` is, by a rule of the project.
 pub fn push_fault(out: &mut Vec<u8>, fault: &Fault) -> Result<(), AllocError>
     ensures { OnOk result (out.new.items ≡ out.old.items ++ fault_line (told fault.now)) }
 {

@@ -45,7 +45,7 @@ impl fmt::Display for Family {
 }
 
 impl Family {
-    // The next table: `random` has eight random rows.
+    // The next table: `random` has eight random rows. A table of closures would be no plainer than the match.
     fn table(self, random: [u8; 8], other: [u8; 8]) -> Option<Fits> {
         match self {
             Family::Even => Fits::new(8, &random),

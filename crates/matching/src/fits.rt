@@ -15,6 +15,7 @@ pub const MOST_TRACKS: usize = 8;
 pub const MOST_HEADS: usize = 8;
 
 /// Which of the heads 0 to N - 1 fit which of the tracks 0 to M - 1.
+// In fixed memory and `Copy`: arrays with a number beside them, since the library has no heap.
 #[derive(Clone, Copy, Debug, PartialEq, Eq)]
 pub struct Fits {
     tracks: usize,

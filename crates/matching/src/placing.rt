@@ -8,6 +8,7 @@ mod search;
 use crate::fits::MOST_TRACKS;
 
 /// A head for each of the tracks 0 to M - 1.
+// In fixed memory and `Copy`: an array with a number beside it, since the library has no heap.
 #[derive(Clone, Copy, Debug, PartialEq, Eq)]
 pub struct Placing {
     tracks: usize,

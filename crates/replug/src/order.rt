@@ -9,6 +9,7 @@ mod plugging;
 pub use plugging::NotFull;
 
 // Head h goes into the socket of head `to[h]`, no two into one; `from` takes it back.
+// In fixed memory and `Copy`, as a station's frames are: arrays with a number beside them.
 #[derive(Clone, Copy)]
 pub struct Order {
     heads: usize,

@@ -153,7 +153,7 @@ where
         }
     }
 
-    // Works both lines by the run.
+    // Works both lines by the run. An iterator over fields would have to hand on the fault beside each field, and is no shorter.
     fn work(&mut self, twins: &mut Twins<'_, '_, '_, '_, K>) -> Result<(), Trouble> {
         let frame_bytes = self.frame.len().saturating_mul(K::R);
         let mut rest = self.run;

@@ -2,6 +2,8 @@
 ghost use Rattle.std.specs.Prelude.{◌≡◌};
 ghost use Rattle.station.specs.Refusals.{number};
 
+use std::fmt;
+
 #[derive(Clone, Copy, PartialEq, Eq, Debug)]
 pub enum Refusal {
     // the plan is another kind's
@@ -36,6 +38,17 @@ impl Refusal {
             Refusal::Head => 34,
             Refusal::Plan => 35,
             Refusal::Tests => 36,
+        }
+    }
+}
+
+// The number, and the head that 31 adds.
+impl fmt::Display for Refusal {
+    fn fmt<W: fmt::Write>(&self, f: &mut fmt::Formatter<W>) -> fmt::Result {
+        let number = self.number();
+        match *self {
+            Refusal::Reading(head) => write!(f, "{number} {head}"),
+            _ => write!(f, "{number}"),
         }
     }
 }

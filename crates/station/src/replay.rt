@@ -14,7 +14,8 @@ use kinds::kind::Kind;
 use sheet::plan::Plan;
 
 // The verdict on the signature in a position after any list of calls of a new station: that on the run which the list
-// leaves, however the calls and their refusals went.
+// leaves, however the calls and their refusals went. What a station is made from is lent for times of its own, as in
+// `Station::new`, and a struct of it would only be taken apart again.
 pub fn replay<K: Kind>(
     kind: K,
     plan: &Plan,

@@ -5,6 +5,7 @@ ghost use Rattle.runs.specs.Verdicts.{judged};
 ghost use Rattle.station.specs.Answers.{verdict_of};
 
 use matching::{Outcome, Placing, TrackSet};
+use std::fmt;
 
 #[derive(Clone, Copy, PartialEq, Eq, Debug)]
 pub enum Verdict {
@@ -24,6 +25,17 @@ impl From<Outcome> for Verdict {
         match outcome {
             Outcome::Seen(placing) => Verdict::Seen(placing),
             Outcome::Short(set) => Verdict::Short(set),
+        }
+    }
+}
+
+// As `young`, `seen 1 0` or `short 6`.
+impl fmt::Display for Verdict {
+    fn fmt<W: fmt::Write>(&self, f: &mut fmt::Formatter<W>) -> fmt::Result {
+        match *self {
+            Verdict::Young => f.write_str("young"),
+            Verdict::Seen(placing) => write!(f, "{}", Outcome::Seen(placing)),
+            Verdict::Short(set) => write!(f, "{}", Outcome::Short(set)),
         }
     }
 }

@@ -66,38 +66,13 @@ impl fmt::Display for Answer {
             Answer::Made => write!(f, "made"),
             Answer::Fault(fault) => write!(f, "{fault}"),
             Answer::Done => write!(f, "ok"),
-            Answer::Refused(refusal) => put_refusal(f, *refusal),
-            Answer::Verdict(verdict) => put_verdict(f, verdict),
+            Answer::Refused(refusal) => write!(f, "refused {refusal}"),
+            Answer::Verdict(verdict) => write!(f, "{verdict}"),
             Answer::Reading(bytes) => {
                 let hex = Hex(bytes.as_slice());
                 write!(f, "{hex}")
             }
             Answer::Absent => write!(f, "absent"),
-        }
-    }
-}
-
-fn put_refusal<W: fmt::Write>(f: &mut fmt::Formatter<W>, refusal: Refusal) -> fmt::Result {
-    let number = refusal.number();
-    match refusal {
-        Refusal::Reading(head) => write!(f, "refused {number} {head}"),
-        _ => write!(f, "refused {number}"),
-    }
-}
-
-fn put_verdict<W: fmt::Write>(f: &mut fmt::Formatter<W>, verdict: &Verdict) -> fmt::Result {
-    match verdict {
-        Verdict::Young => write!(f, "young"),
-        Verdict::Seen(placing) => {
-            write!(f, "seen")?;
-            for head in placing.heads() {
-                write!(f, " {head}")?;
-            }
-            Ok(())
-        }
-        Verdict::Short(set) => {
-            let number = set.number();
-            write!(f, "short {number}")
         }
     }
 }
@@ -119,7 +94,7 @@ fn back_answer<K: Kind>(
     }
 }
 
-// Makes one call; what the station answers.
+// Makes one call; what the station answers. A step is a value, since a line of the script says which it is.
 fn step_answer<K: Kind>(
     heap: Global,
     kind: K,

@@ -38,7 +38,8 @@ pub fn same_answer(one: &Result<Verdict, Refusal>, other: &Result<Verdict, Refus
 }
 
 impl<'p, 's, 't, 'u, K: Kind> Twins<'p, 's, 't, 'u, K> {
-    // Two stations of the same plan and tests, each after a gap, from which on they agree.
+    // Two stations of the same plan and tests, each after a gap, from which on they agree. The six stay apart: a struct
+    // of them would be taken apart here again, and each is lent for a time of its own.
     #[tactic(auto, using(crate::proofs::Twinned::twins_begin))]
     pub fn new(
         kind: K,

@@ -9,7 +9,7 @@ use crate::call::Call;
 use kinds::kind::Kind;
 
 impl<'p, 's, 't, K: Kind> Station<'p, 's, 't, K> {
-    // Makes one call.
+    // Makes one call. Calls are values and no closures, since the promise speaks of every list of them.
     fn perform(&mut self, call: &Call<'_, K::Reading>)
         ensures { Works K.facts.readings.proper K.facts.passes (snap self.old) (called call.now) (snap self.new) }
     {
