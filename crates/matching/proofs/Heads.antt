@@ -1,5 +1,4 @@
 -- The heads of a set of tracks, track by track.
-use mathlib.Core.Bool.{or-false}
 use Rattle.std.proofs.Common.{◌≡◌, ℕ, ◌^◌, ◌<◌, Bool, true, false, not, ◌&&◌, ◌||◌, eqb, sym, refl, ap, ◌∙◌, inl, inr, arith}
 use Rattle.std.proofs.lemmas.Bool.{cases_eq, and_parts, and_from, or_cases, or_left, or_right}
 use Rattle.matching.specs.Sets.{has}
@@ -7,14 +6,6 @@ use Rattle.matching.specs.Fitting.{Fitting}
 use Rattle.matching.specs.Short.{usable}
 use Rattle.matching.proofs.Counting.{any_in, any_out}
 use Rattle.matching.proofs.Words.{has_none, has_within, without_other, Least}
-
--- No track has no heads.
-pub usable_none : (fits : Fitting) (M h : ℕ) → usable fits (has 0) M h ≡ false
-usable_none fits M h = go (usable fits (has 0) M h) refl
-  where
-    go : (b : Bool) → usable fits (has 0) M h ≡ b → b ≡ false
-    go false e = refl
-    go true e = let w = any_out (λ t. has 0 t && fits t h) M e in sym (sym (has_none w.0) ∙ (and_parts (has 0 w.0) (fits w.0 h) w.2).0)
 
 -- A track is taken from the set, and its heads are set apart.
 pub usable_taken : {left t rest : ℕ} (fits : Fitting) (M h : ℕ) → t < M → Least left t rest
@@ -68,6 +59,3 @@ joined_more {M} {set} {heads} {left} {t} {rest} {heads'} {row} fits j n r e =
   where
     turn : (a b c : Bool) → ((a || b) || c) ≡ (a || (b || c))
     turn a b c = grind arith
-
-pub joined_all : {M set heads left : ℕ} (fits : Fitting) → Joined fits M set heads left → left ≡ 0 → (h : ℕ) → has heads h ≡ usable fits (has set) M h
-joined_all {M} {set} {heads} {left} fits j e h = sym (ap (λ b. has heads h || b) (ap (λ s. usable fits (has s) M h) e ∙ usable_none fits M h) ∙ or-false (has heads h)) ∙ j.all h

@@ -55,6 +55,7 @@ fn is_table(heads: usize, rows: &[u8]) -> bool
 }
 
 // The set of the heads that fit the track.
+// A loop, since a filter's items are named by a test, and what a witness says is told head by head.
 fn heads_said<W: Witness>(track: usize, heads: usize, witness: &W) -> HeadSet
     requires { heads ≤ most_heads }
     ensures { Members (W.Says witness.now track) heads result.number }

@@ -43,6 +43,7 @@ impl SmallSet {
     }
 
     // Takes one member more into the set.
+    #[tactic(auto, using(crate::proofs::Words::has_with))]
     pub(crate) fn insert(&mut self, member: usize)
         requires { member < most_members }
         ensures { (x : ℕ) → has self.new.number x ≡ (has self.old.number x || x == member) }
@@ -51,6 +52,7 @@ impl SmallSet {
     }
 
     // The set without one of its members.
+    #[tactic(auto, using(crate::proofs::Words::has_without))]
     pub(crate) fn without(self, member: usize) -> SmallSet
         requires { member < most_members }
         ensures { (x : ℕ) → has result.number x ≡ without (has self.number) member x }
@@ -61,6 +63,7 @@ impl SmallSet {
     }
 }
 
+#[tactic(auto, using(crate::proofs::Words::has_and))]
 impl BitAnd for SmallSet {
     type Output = SmallSet;
 
@@ -73,6 +76,7 @@ impl BitAnd for SmallSet {
     }
 }
 
+#[tactic(auto, using(crate::proofs::Words::has_or))]
 impl BitOrAssign for SmallSet {
     ghost bitor_assign_gives = { λ a b r. (x : ℕ) → has r.number x ≡ (has a.number x || has b.number x) };
 

@@ -2,7 +2,7 @@ use Rattle.std.proofs.Common.{ap, arith}
 use Rattle.matching.specs.Sets.{has}
 use Rattle.matching.specs.Meaning.{fitting}
 use Rattle.matching.proofs.Words.{least_of}
-use Rattle.matching.proofs.Heads.{joined_none, joined_more, joined_all}
+use Rattle.matching.proofs.Heads.{joined_none, joined_more}
 use Rattle.matching.proofs.fits.Fits.heads_for.Goals as goal
 
 pub loop-track-init : goal.loop-track-init
@@ -14,6 +14,3 @@ row-requires c = c.loop-track.invariant.low c.in-Some.track (least_of c.in-Some.
 pub loop-track-preserved : goal.loop-track-preserved
 loop-track-preserved c =
     joined_more (fitting c.args.self.now) c.loop-track.invariant (least_of c.in-Some.ensures.steps) (λ h. ap (λ r. has r h) c.row.ensures) c.bitor_assign.ensures.after
-
-pub returns : goal.returns
-returns c = joined_all (fitting c.args.self.now) c.loop-track.invariant c.in-None.ensures.steps
