@@ -1,6 +1,5 @@
 -- Reading values into a list from its start, one more at a time. Assumes nothing.
-use Rattle.std.proofs.Common.{◌≡◌, ℕ, suc, ◌+◌, ◌-◌, ◌*◌, ◌^◌, ◌<◌, ◌≤◌, List, ◌∷◌, length, take, drop, set, Some, None, Ok, Err, sym, refl, ap, ◌∙◌, suc-mul, arith}
-use native.Mathlib.Nat.{sub-zero}
+use Rattle.std.proofs.Common.{◌≡◌, ℕ, suc, ◌+◌, ◌-◌, ◌*◌, ◌^◌, ◌<◌, ◌≤◌, List, ◌∷◌, length, take, drop, set, Some, None, Ok, Err, sym, ap, ◌∙◌, suc-mul, arith}
 use Rattle.std.proofs.lemmas.List.{length-drop, length-set}
 use Rattle.kinds.specs.Codings.{Coding}
 use Rattle.sheetfile.specs.declared.fault.Cause.{Cause}
@@ -11,7 +10,7 @@ use Rattle.sheetfile.specs.Values.{one_value, values_read}
 use Rattle.sheetfile.proofs.Outcomes.{twice}
 use Rattle.sheetfile.proofs.Values.{values_some, values_none}
 use Rattle.sheet.specs.Stored.{Left}
-use Rattle.sheet.proofs.Puts.{Same, same_first, same_last, same_test, stopped}
+use Rattle.sheet.proofs.Puts.{Same, same_last, same_test, stopped}
 
 -- what is left of so many pieces, with one less
 pub less_long : (n i w : ℕ) (rest : List ℕ) → i < n → (n - i) * w ≤ length rest → (n - (i + 1)) * w ≤ length (drop w rest)
@@ -33,9 +32,6 @@ module _ {T : Type 0} (cause : Cause) (k : Coding T) (at : ℕ) (body : List ℕ
     pub size : length s ≡ n
     pub there : Near → i ≤ n → place + (n - i) * k.width ≡ at + n * k.width
     pub same : Near → Same (bare (values_read cause k n at body)) 0 s₀ (bare (values_read cause k (n - i) place rest)) i s
-
-  pub fill_begin : Filling 0 at body s₀
-  fill_begin = record { size = refl; there = λ near l. simp sub-zero refl; same = λ near. simp sub-zero same_first }
 
   module _ {i place : ℕ} {rest : List ℕ} {s : List T} (h : Filling i place rest s) where
     -- one value more, from the bytes in front

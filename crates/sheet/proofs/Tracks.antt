@@ -1,6 +1,5 @@
 -- Reading the tracks of a signature, one turn more. Assumes the laws of the kind.
-use Rattle.std.proofs.Common.{◌≡◌, ℕ, suc, ◌+◌, ◌-◌, ◌*◌, ◌<◌, ◌≤◌, not, eqb, List, [], ◌∷◌, length, get_or, take, drop, Ok, Err, Result, sym, ap, ◌∙◌, subst, add-one, zero-mul, suc-mul, arith}
-use native.Mathlib.Nat.{sub-zero}
+use Rattle.std.proofs.Common.{◌≡◌, ℕ, suc, ◌+◌, ◌-◌, ◌*◌, ◌<◌, ◌≤◌, not, eqb, List, [], ◌∷◌, length, get_or, take, drop, Ok, Err, Result, sym, ap, ◌∙◌, subst, add-one, suc-mul, arith}
 use borrow.Rule.Slice.PartMut.{put_mid}
 use Rattle.std.proofs.Math.Nat.{mul-le-mul_right}
 use Rattle.std.proofs.lemmas.List.{length-drop, length-take-le, get_or-take, drop-take}
@@ -17,7 +16,7 @@ use Rattle.sheetfile.proofs.Outcomes.{went_on, told_ok, bare_into}
 use Rattle.sheetfile.proofs.Values.{values_own}
 use Rattle.sheetfile.proofs.Only.{values_only}
 use Rattle.sheet.specs.Stored.{Left}
-use Rattle.sheet.proofs.Puts.{Same, same_first, same_at, same_last, same_chain, left_chain, left_is, left_part, length_mid}
+use Rattle.sheet.proofs.Puts.{Same, same_at, same_last, same_chain, left_chain, left_is, left_part, length_mid}
 use Rattle.sheet.proofs.Filling.{less_long}
 
 -- one part of a store in parts of m
@@ -71,13 +70,6 @@ module _ {T : Type 0} (k : Coding T) (law : Lawful most_test_width k) (m : ℕ) 
       pub same : Same (bare whole) 0 s₀ (bare (tracks_read k m (count - i) place rest)) (i * m) s
       pub long : (count - i) * size ≤ length rest
       pub room : length s ≡ count * m
-
-    pub tracks_begin : length body ≡ count * size → length s₀ ≡ count * m → TracksTurn 0 at body s₀
-    tracks_begin long room = record {
-      same = simp (zero-mul, sub-zero) same_first;
-      long = simp sub-zero (omega arith);
-      room = room;
-    }
 
     module _ {i place : ℕ} {rest : List ℕ} {s : List T} (h : TracksTurn i place rest s) where
       pub tracks_end : count ≤ i → Left (bare whole) 0 s₀ (Ok tt) s

@@ -1,10 +1,7 @@
 use Rattle.std.proofs.Common.{◌+◌, ◌*◌, take, drop, ap, ◌∙◌}
 use Rattle.std.proofs.lemmas.Result.{err_from_is_err_and}
-use Rattle.sheet.proofs.Tracks.{one_part, tracks_begin, track_ready, tracks_again, tracks_break, tracks_end}
+use Rattle.sheet.proofs.Tracks.{one_part, track_ready, tracks_again, tracks_break, tracks_end}
 use Rattle.sheet.proofs.track.read_tracks.Goals as goal
-
-pub loop-i-init : goal.loop-i-init
-loop-i-init g c = tracks_begin _ _ _ _ _ _ _ c.requires.whole c.requires.room
 
 pub read_track-requires : goal.read_track-requires
 read_track-requires g c =
