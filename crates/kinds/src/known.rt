@@ -28,7 +28,7 @@ impl fmt::Display for KnownKind {
 
 impl KnownKind {
     // The kind that a sheet file is read as: its fourth byte is the kind's code.
-    // With another code there, or under four bytes, it is read as band.
+    // With another code there, or under four bytes, it is read as band. (No TryFrom: no code is refused.)
     pub fn of_sheet(bytes: &[u8]) -> KnownKind
         ensures { result ≡ picked bytes.now }
     {

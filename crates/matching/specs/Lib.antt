@@ -13,3 +13,4 @@ pub mod Limits
 pub mod Meaning
 pub mod Promises
 pub mod Onward
+pub mod Texts

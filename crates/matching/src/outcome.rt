@@ -1,6 +1,7 @@
 // The outcome: seen or short.
-ghost use Rattle.std.specs.Prelude.{◌≡◌};
+ghost use Rattle.std.specs.Prelude.{◌≡◌, Some};
 ghost use Rattle.matching.specs.Meaning.{answer_of};
+ghost use Rattle.matching.specs.Texts.{spaced, answer_text};
 ghost use Rattle.matching.specs.Promises.{answer_for, RightFor, OnlyRight, SameRenamed, Local};
 
 use crate::fits::Fits;
@@ -38,17 +39,34 @@ impl Fits {
     }
 }
 
+// Heads, with a blank before each.
+#[derive(Clone, Copy)]
+struct Spaced<'a>(&'a [u8]);
+
+impl fmt::Display for Spaced<'_> {
+    ghost output = { λ heads. Some (spaced heads.0.now) };
+
+    fn fmt<W: fmt::Write>(&self, f: &mut fmt::Formatter<W>) -> fmt::Result {
+        for head in self.0 {
+            write!(f, " {head}")?;
+        }
+        Ok(())
+    }
+}
+
 impl fmt::Display for Outcome {
+    ghost output = { λ outcome. Some (answer_text (answer_of outcome)) };
+
     fn fmt<W: fmt::Write>(&self, f: &mut fmt::Formatter<W>) -> fmt::Result {
         match self {
             Outcome::Seen(placing) => {
-                f.write_str("seen")?;
-                for head in placing.heads() {
-                    write!(f, " {head}")?;
-                }
-                Ok(())
+                let heads = Spaced(placing.heads());
+                write!(f, "seen{heads}")
             }
-            Outcome::Short(set) => write!(f, "short {}", set.number()),
+            Outcome::Short(set) => {
+                let number = set.number();
+                write!(f, "short {number}")
+            }
         }
     }
 }

@@ -8,8 +8,8 @@ mod plugging;
 
 pub use plugging::NotFull;
 
-// Head h goes into the socket of head `to[h]`, no two into one; `from` takes it back.
-// In fixed memory and `Copy`, as a station's frames are: arrays with a number beside them.
+// Head h goes into the socket of head `to[h]`, no two into one; `from` takes it back. Arrays and not `Vec`s: one is tried
+// for each of up to 8 ^ 8 lists, and `new` has no memory to ask for.
 #[derive(Clone, Copy)]
 pub struct Order {
     heads: usize,

@@ -159,6 +159,7 @@ where
         let mut rest = self.run;
         let mut place = 0usize;
         let mut number = 0usize;
+        // no iterator: a field tells by its size where the next begins, and may be a fault
         while !rest.is_empty() {
             let field = next_run_field(rest, place, frame_bytes)?;
             let size = field.size();

@@ -11,3 +11,4 @@ pub mod Snap
 pub mod Making
 pub mod Working
 pub mod Rechecks
+pub mod Texts

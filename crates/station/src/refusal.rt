@@ -1,6 +1,7 @@
 // Why a call of a station is refused.
-ghost use Rattle.std.specs.Prelude.{◌≡◌};
-ghost use Rattle.station.specs.Refusals.{number};
+ghost use Rattle.std.specs.Prelude.{◌≡◌, Some};
+ghost use Rattle.station.specs.Refusals.{number, told};
+ghost use Rattle.station.specs.Texts.{refusal_text};
 
 use std::fmt;
 
@@ -44,6 +45,8 @@ impl Refusal {
 
 // The number, and the head that 31 adds.
 impl fmt::Display for Refusal {
+    ghost output = { λ refusal. Some (refusal_text (told refusal)) };
+
     fn fmt<W: fmt::Write>(&self, f: &mut fmt::Formatter<W>) -> fmt::Result {
         let number = self.number();
         match *self {

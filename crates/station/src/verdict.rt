@@ -1,8 +1,9 @@
 // What a look tells.
-ghost use Rattle.std.specs.Prelude.{◌≡◌};
+ghost use Rattle.std.specs.Prelude.{◌≡◌, Some};
 ghost use Rattle.matching.specs.Meaning.{answer_of};
 ghost use Rattle.runs.specs.Verdicts.{judged};
 ghost use Rattle.station.specs.Answers.{verdict_of};
+ghost use Rattle.station.specs.Texts.{verdict_text};
 
 use matching::{Outcome, Placing, TrackSet};
 use std::fmt;
@@ -31,11 +32,19 @@ impl From<Outcome> for Verdict {
 
 // As `young`, `seen 1 0` or `short 6`.
 impl fmt::Display for Verdict {
+    ghost output = { λ verdict. Some (verdict_text (verdict_of verdict)) };
+
     fn fmt<W: fmt::Write>(&self, f: &mut fmt::Formatter<W>) -> fmt::Result {
         match *self {
-            Verdict::Young => f.write_str("young"),
-            Verdict::Seen(placing) => write!(f, "{}", Outcome::Seen(placing)),
-            Verdict::Short(set) => write!(f, "{}", Outcome::Short(set)),
+            Verdict::Young => write!(f, "young"),
+            Verdict::Seen(placing) => {
+                let outcome = Outcome::Seen(placing);
+                write!(f, "{outcome}")
+            }
+            Verdict::Short(set) => {
+                let outcome = Outcome::Short(set);
+                write!(f, "{outcome}")
+            }
         }
     }
 }

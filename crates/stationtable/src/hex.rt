@@ -21,6 +21,7 @@ impl fmt::Display for Hex<'_> {
     }
 }
 
+// Only these digits: the kit's `hex` and `to_digit` read capital letters too.
 fn digit(c: u8) -> anyhow::Result<u8>
     ensures { IfOk result (λ d. d < 16) }
 {
