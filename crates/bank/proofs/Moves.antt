@@ -1,5 +1,5 @@
 -- Elements of a list that are changed from the front on, one by one. Assumes nothing.
-use Rattle.std.proofs.Common.{◌≡◌, ℕ, ◌+◌, ◌<◌, ◌≤◌, ◌≢◌, List, length, get_or, set, refl, sym, ◌∙◌, subst, inl, inr, arith}
+use Rattle.std.proofs.Common.{◌≡◌, ℕ, ◌+◌, ◌<◌, ◌≤◌, ◌≢◌, List, length, get_or, set, sym, ◌∙◌, subst, inl, inr, arith}
 use Rattle.std.proofs.lemmas.List.{get_or-set_same, get_or-set_other, set-get_or}
 use Rattle.std.proofs.lemmas.Bool.{cases_lt}
 
@@ -9,9 +9,6 @@ pub record Moved {X : Type 0} (Rule : ℕ → X → X → Type 0) (blank : X) (n
   pub kept : (k : ℕ) → n ≤ k → get_or new k blank ≡ get_or old k blank
 
 module _ {X : Type 0} {Rule : ℕ → X → X → Type 0} {blank : X} {old : List X} where
-  pub moved_none : Moved Rule blank 0 old old
-  moved_none = record { done = λ k h. absurd (omega arith); kept = λ k h. refl }
-
   -- one element more
   pub moved_more : {n : ℕ} {new : List X} (is : X) → Moved Rule blank n old new → n < length new → Rule n (get_or new n blank) is → Moved Rule blank (n + 1) old (set new n is)
   moved_more {n = n} {new = new} is m l r =

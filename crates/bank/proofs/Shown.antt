@@ -15,7 +15,7 @@ use Rattle.bank.specs.declared.Bank.{Bank}
 use Rattle.bank.specs.Words.{no_tracks, word_of}
 use Rattle.bank.specs.Agreement.{Agrees, Fitted, SignatureFitted}
 use Rattle.bank.specs.Tables.{Shows, FitsShown}
-use Rattle.bank.proofs.Items.{nth_below, each_at}
+use Rattle.bank.proofs.Items.{each_at}
 use Rattle.bank.proofs.Agreeing.{track_long}
 
 -- a word with no bit set shows that no match is complete
@@ -26,10 +26,6 @@ shows_none passes frames =
 module _ {T R : Type 0} (passes : T → R → Bool) (position heads : ℕ) (bank : Bank) (signatures : List (Signature T)) (run : List (List R)) (s : Signature T) (fitted : Fitted heads signatures) (at : slice_get signatures position ≡ Some s) (agrees : Agrees passes heads signatures run bank) where
   pub fitted_here : SignatureFitted s
   fitted_here = each_at SignatureFitted signatures position s fitted.each at
-
-  -- a bank has rows for its position
-  pub position_below : position < 12
-  position_below = omega (arith, nth_below signatures position s at, fitted.few_signatures)
 
   -- what rows show is what the run tells
   pub fits_told : (frames : ℕ) (f : Fits) → frames ≡ s.frames → AsSaid (λ t h flag. Shows passes frames (word_of (get_or bank.signatures position no_tracks) t h) flag) (length s.tracks) heads f

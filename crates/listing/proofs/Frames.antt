@@ -17,7 +17,7 @@ use Rattle.listing.specs.declared.reporting.Listing.{Listing}
 use Rattle.listing.specs.Listed.{Lists}
 use Rattle.listing.specs.Reports.{reported, at_frame}
 use Rattle.listing.specs.Kept.{looked}
-use Rattle.listing.proofs.Kept.{lists_none, lists_more}
+use Rattle.listing.proofs.Kept.{lists_more}
 
 module _ {T R : Type 0} (lawful : R → Bool) (passes : T → R → Bool) where
   frame_append : (N : ℕ) (ss ts : List (Signature T)) (number : ℕ) (run : List (List R)) → at_frame passes N (ss ++ ts) number run ≡ at_frame passes N ss number run ++ at_frame passes N ts number run
@@ -30,9 +30,6 @@ module _ {T R : Type 0} (lawful : R → Bool) (passes : T → R → Bool) where
     -- after the first i signatures
     pub record FrameTurn (i : ℕ) (new : Listing) : Type 0 where
       pub lists : (N : ℕ) (sheet : List (Signature T)) (run : List (List R)) → Following lawful passes N sheet run s → Lists (at_frame passes N (take i sheet) number run) old new
-
-    pub frame_begin : FrameTurn 0 old
-    frame_begin = record { lists = λ N sheet run h. lists_none old }
 
     module _ {i : ℕ} {new : Listing} (t : FrameTurn i new) (l : i < length s.entries) (e : Entry) (at : e ≡ get_or s.entries i e)
         (a : Result Verdict Told) (look : Looks lawful passes s i a) (next : Listing) (adds : Lists (looked number e.name a) new next) where

@@ -1,6 +1,6 @@
 -- The latest reports in a ring, and the lines of reports: some, and then more. Assumes nothing.
-use Rattle.std.proofs.Common.{◌≡◌, ℕ, zero, suc, ◌≤◌, List, [], ◌∷◌, ◌++◌, map, reverse, length, take, drop, sym, refl, ap, ◌∙◌, arith}
-use Rattle.std.proofs.lemmas.List.{append_assoc, append-nil, reverse-append, length-map, length-take, take_all, take-take, take-map}
+use Rattle.std.proofs.Common.{◌≡◌, ℕ, zero, suc, ◌≤◌, List, [], ◌∷◌, ◌++◌, map, reverse, take, sym, refl, ap, ◌∙◌, arith}
+use Rattle.std.proofs.lemmas.List.{append_assoc, reverse-append, take-take, take-map}
 use Rattle.lines.specs.Lines.{Report, report_line, report_lines}
 use Rattle.ring.specs.declared.Ring.{Ring}
 use Rattle.ring.specs.Rings.{holds}
@@ -18,14 +18,6 @@ take_behind : {X : Type 0} (m n : ℕ) (xs ys : List X) → m ≤ n → take m (
 take_behind m n [] ys l = take-take m n ys l
 take_behind zero n (x ∷ xs) ys l = refl
 take_behind (suc m) n (x ∷ xs) ys l = ap (λ zs. x ∷ zs) (take_behind m n xs ys (omega arith))
-
-few : (r : Ring KeptReport) → length (reports_in r) ≤ r.capacity
-few r =
-    let all = reverse (take r.next r.slots.now) ++ reverse (drop r.next (take r.capacity r.slots.now)) in
-    omega (arith, length-map (holds r) report_of, length-take r.count all, r.sound.held)
-
-pub adds_none : (r : Ring KeptReport) → Adds [] r r
-adds_none r = record { capacity = refl; holds_are = sym (take_all r.capacity (reports_in r) (few r)) }
 
 pub adds_one : (item : KeptReport) (old new : Ring KeptReport) → new.capacity ≡ old.capacity → (holds new ≡ take old.capacity (item ∷ holds old)) → Adds (report_of item ∷ []) old new
 adds_one item old new same keeps =
@@ -45,10 +37,7 @@ adds_more rs qs a b c one two =
           ∙ ap (λ xs. take n (xs ++ reports_in a)) (sym (reverse-append rs qs));
     }
 
--- reports that a listing gains: none, and some and then more
-pub lists_none : (l : Listing) → Lists [] l l
-lists_none l = record { wrote = sym (append-nil l.lines.items); added = adds_none l.latest }
-
+-- reports that a listing gains: some, and then more
 pub lists_more : (rs qs : List Report) (a b c : Listing) → Lists rs a b → Lists qs b c → Lists (rs ++ qs) a c
 lists_more rs qs a b c one two =
     record {

@@ -1,6 +1,6 @@
 -- The latest n of a history, newest first, as items come to it.
 use Rattle.std.proofs.Common.{◌≡◌, ℕ, zero, suc, ◌+◌, ◌<◌, ◌≤◌, List, [], ◌∷◌, ◌++◌, reverse, length, get_or, take, sym, refl, ap, ◌∙◌, arith}
-use Rattle.std.proofs.lemmas.List.{reverse-append, take_more, take-take, take_all}
+use Rattle.std.proofs.lemmas.List.{reverse-append, take_more, take-take}
 
 tail_cut : {X : Type 0} (m n : ℕ) (items history : List X) → m ≤ n → take m (items ++ take n history) ≡ take m (items ++ history)
 tail_cut m n [] history h = take-take m n history h
@@ -20,8 +20,3 @@ pushed_more items held was is n n' i x l at same before after =
     ap reverse (take_more items i x l) ∙ reverse-append (take i items) (get_or items i x ∷ []) ∙ ap (λ y. y ∷ reverse (take i items)) (sym at) in
     after ∙ ap (λ k. take k (x ∷ was)) same ∙ ap (λ t. take n (x ∷ t)) before ∙ tail_more n (x ∷ []) (reverse (take i items) ++ held)
     ∙ ap (λ t. take n (t ++ held)) (sym more)
-
--- and all of them
-pub pushed_all : {X : Type 0} (items held is : List X) (n i : ℕ) → length items ≤ i
-    → is ≡ take n (reverse (take i items) ++ held) → is ≡ take n (reverse items ++ held)
-pushed_all items held is n i l done = done ∙ ap (λ t. take n (reverse t ++ held)) (take_all i items l)

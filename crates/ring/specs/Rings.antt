@@ -1,6 +1,6 @@
 -- What a ring holds, and what it leaves alone.
 use Rattle.std.specs.Prelude.{List, drop}
-use Rattle.ring.specs.Latest.{latest, Sound}
+use Rattle.ring.specs.Latest.{latest}
 use Rattle.ring.specs.declared.Ring.{Ring}
 
 -- The items held, newest first.
@@ -10,7 +10,3 @@ holds r = latest r.slots.now r.capacity r.next r.count
 -- The lent slots past the capacity.
 abbrev pub unused : {X : Type 0} → Ring X → List X
 unused r = drop r.capacity r.slots.now
-
--- A ring as `new` makes it and every call keeps it.
-abbrev pub Good : {X : Type 0} → Ring X → Type 0
-Good r = Sound r.slots.now r.capacity r.next r.count

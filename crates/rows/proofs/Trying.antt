@@ -25,10 +25,6 @@ module _ (left i rest : ℕ) (t : TakesLeast left i rest) where
   unfolding bit
   least_on = ap (λ n. eqb n 1) t.member
 
-  least_gone : bit i rest ≡ false
-  unfolding bit
-  least_gone = ap (λ n. eqb n 1) t.gone
-
   others : (k : ℕ) → k ≢ i → bit k rest ≡ bit k left
   unfolding bit
   others k ne = ap (λ n. eqb n 1) (t.others k ne)

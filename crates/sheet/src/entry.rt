@@ -3,7 +3,7 @@ ghost use Rattle.std.specs.Prelude.{◌≡◌, ◌*◌};
 ghost use Rattle.std.specs.Option.{option_copied};
 ghost use Rattle.sheet.specs.Parts.{part_of};
 
-// A signature's figures, and where its tests begin in the store:
+// A signature's figures, and where its tests begin in the store, which is the caller's memory:
 // track t has its `frames` tests from `first + t * frames` on.
 #[derive(Clone, Copy, PartialEq, Eq, Debug, Default)]
 pub struct Entry {

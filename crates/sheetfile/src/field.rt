@@ -31,7 +31,8 @@ impl TryFrom<u8> for Tag {
     }
 }
 
-// A field, as the part of the file that is its body, and the place where the field starts.
+// A field, as the part of the file that is its body, and the place where the field starts. Each case holds its own part
+// and place, by a rule of the project.
 #[derive(Clone, Copy)]
 pub enum Field<'a> {
     Head(&'a [u8], usize),

@@ -2,7 +2,7 @@
 use Rattle.std.proofs.Common.{◌≡◌, ℕ, zero, suc, ◌+◌, ◌-◌, ◌*◌, ◌<◌, ◌≤◌, Bool, true, false, ◌&&◌, List, [], ◌∷◌, length, get_or, drop, Some, None, Option, sym, refl, ap, ◌∙◌, subst, arith, MatchOption}
 use Rattle.ring.specs.Rings.{holds}
 use Rattle.std.specs.List.{slice_get}
-use Rattle.std.proofs.lemmas.List.{drop_more, drop_all, length-drop}
+use Rattle.std.proofs.lemmas.List.{drop_more, length-drop}
 use Rattle.matching.specs.Meaning.{AsSaid}
 use Rattle.matching.specs.declared.fits.Fits.{Fits}
 use Rattle.rows.specs.Matches.{is_some_and, passed_last}
@@ -39,9 +39,6 @@ module _ {T R : Type 0} (passes : T → R → Bool) (tail : Tail R) where
     pub record Left (i : ℕ) : Type 0 where
       pub same : head < tail.heads → passed_last passes tests readings ≡ passed_last passes (drop i tests) readings
 
-    pub left_all : Left 0
-    left_all = record { same = λ l. refl }
-
     module _ (i : ℕ) (h : Left i) (l : i < length tests) (t : T) (at : t ≡ get_or tests i t) where
       -- the reading that this test looks at
       here : head < tail.heads → (o : Option R) → (head < tail.heads → o ≡ back (frames_of tail) (length tests - 1 - i) head)
@@ -63,9 +60,6 @@ module _ {T R : Type 0} (passes : T → R → Bool) (tail : Tail R) where
 
       pub left_absent : (head < tail.heads → None ≡ back (frames_of tail) (length tests - 1 - i) head) → Passed passes tail tests head false
       left_absent is = record { is = λ lh. sym (here lh None is) }
-
-    pub left_none : (i : ℕ) → Left i → length tests ≤ i → Passed passes tail tests head true
-    left_none i h l = record { is = λ lh. sym (h.same lh ∙ ap (λ ts. passed_last passes ts readings) (drop_all i tests l)) }
 
   -- the fits of a signature whose tests the store holds
   pub tail_shown : (store : List T) (e : Entry) (f : Fits) → e.first + e.tracks * e.frames ≤ length store → AsSaid (λ t h flag. ToldFit passes tail (track_of e t store) h flag) e.tracks tail.heads f

@@ -1,7 +1,7 @@
 -- A list of calls, one more at a time, and what a look after it tells. Assumes nothing.
 use Rattle.std.proofs.Common.{◌≡◌, ℕ, ◌+◌, ◌<◌, ◌≤◌, Bool, List, [], ◌∷◌, ◌++◌, map, length, get_or, take, Some, None, Ok, Err, Option, Result, sym, refl, ap, ◌∙◌, subst, ⊎_elim, arith}
 use Rattle.std.specs.List.{slice_get}
-use Rattle.std.proofs.lemmas.List.{take_more, take_all, map-append, length-map}
+use Rattle.std.proofs.lemmas.List.{take_more, map-append, length-map}
 use Rattle.std.proofs.lemmas.Bool.{cases_lt}
 use Rattle.runs.specs.Calls.{Call, ran}
 use Rattle.runs.specs.Verdicts.{Verdict}
@@ -30,9 +30,6 @@ module _ {T R : Type 0} (lawful : R → Bool) (passes : T → R → Bool) where
       let more : take (i + 1) cs ≡ take i cs ++ c ∷ [] = take_more cs i c l ∙ ap (λ x. take i cs ++ x ∷ []) (sym at) in
       let moved : map called (take (i + 1) cs) ≡ map called (take i cs) ++ called c ∷ [] = ap (map called) more ∙ map-append called (take i cs) (c ∷ []) in
       subst (λ (x : List (Call R)). Worked lawful passes s x u) (sym moved) (worked_push s t u (map called (take i cs)) (called c) w k)
-
-  pub worked_all : (s t : State T R) (cs : List (Recorded R)) (i : ℕ) → length cs ≤ i → Worked lawful passes s (map called (take i cs)) t → Worked lawful passes s (map called cs) t
-  worked_all s t cs i l w = subst (λ (x : List (Recorded R)). Worked lawful passes s (map called x) t) (take_all i cs l) w
 
   -- no signature in a position: it is past the last entry
   none_there : {X : Type 0} (xs : List X) (p : ℕ) → slice_get xs p ≡ None → length xs ≤ p

@@ -21,7 +21,8 @@ fn tests_in(entries: &[Entry]) -> usize
 }
 
 // Whether a station can be made of these: the empty plan, another kind's plan, a store shorter than the plan's tests
-// and tail memory for under 64 frames are refused, in this order. Nothing is written.
+// and tail memory for under 64 frames are refused, in this order. Nothing is written. The four stay apart, as in
+// `Station::new`: they are lent for times of their own.
 pub fn check_making<K: Kind>(
     kind: K,
     plan: &Plan,
