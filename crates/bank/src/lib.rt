@@ -38,7 +38,8 @@ impl Bank {
         }
     }
 
-    // One accepted frame more.
+    // One accepted frame more. Entries are looked up: after a `zip` with `iter_mut` a proof knows no more of the rows than
+    // their number.
     pub fn step<K: Kind>(
         &mut self,
         kind: K,
@@ -67,9 +68,7 @@ impl Bank {
     ) -> Option<Fits>
         ensures { (signatures : List (Signature K.Test)) (run : List (List K.Reading)) (s : Signature K.Test) → Fitted heads signatures → slice_get signatures position ≡ Some s → entry.now.tracks ≡ length s.tracks → entry.now.frames ≡ s.frames → Agrees K.facts.passes heads signatures run self.now → MatchOption result ⊥ (FitsShown (length s.tracks) heads (fits K.facts.passes s run)) }
     {
-        let Some(signature) = self.signatures.get(position) else {
-            return None;
-        };
+        let signature = self.signatures.get(position)?;
         let witness = CompleteMatches {
             kind,
             frames: entry.frames as usize,

@@ -32,7 +32,7 @@ impl SignatureRows {
         self.tracks.get(track)?.heads.get(head)
     }
 
-    // One frame more. Where the store is too short for the entry's tests, nothing is done.
+    // One frame more. No `zip`, as in `Bank::step`. Where the store is too short for the entry's tests, nothing is done.
     pub(crate) fn step<K: Kind>(
         &mut self,
         kind: K,

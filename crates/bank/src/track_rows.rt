@@ -22,7 +22,7 @@ impl TrackRows {
         }
     }
 
-    // One frame more.
+    // One frame more. No `zip`, as in `Bank::step`.
     pub(crate) fn step<K: Kind>(&mut self, kind: K, tests: &[K::Test], frame: &[K::Reading])
         ensures { TrackStepped K.facts.passes tests.now frame.now self.old self.new }
     {

@@ -18,22 +18,28 @@ use std::alloc::{AllocError, Global};
 use std::fmt;
 use std::fmt::{Display, Write};
 
-// The signature's figures, and a line for each of its tests: tracks from 0, frames from 1, the oldest first.
-fn put_signature<T: Display>(out: &mut String, entry: &Entry, store: &[T]) -> fmt::Result {
-    let name = entry.name;
-    let tracks = entry.tracks;
-    let frames = entry.frames as usize;
-    writeln!(out, "signature {name}: tracks {tracks}, frames {frames}")?;
-    let Some(tests) = entry.tests_in(store) else {
-        return Ok(());
-    };
-    if frames == 0 {
-        return Ok(());
-    }
+// A line for each test of a track: frames from 1, the oldest first.
+fn put_track<T: Display>(out: &mut String, track: usize, tests: &[T]) -> fmt::Result {
     for (i, test) in tests.iter().enumerate() {
-        let track = i / frames;
-        let frame = i % frames + 1;
+        let frame = i.saturating_add(1);
         writeln!(out, "  track {track}, frame {frame}: {test}")?;
+    }
+    Ok(())
+}
+
+// The signature's figures, and the lines of its tracks, from 0.
+fn put_signature<T: Display>(out: &mut String, entry: &Entry, store: &[T]) -> fmt::Result {
+    let Entry {
+        name,
+        tracks,
+        frames,
+        ..
+    } = *entry;
+    writeln!(out, "signature {name}: tracks {tracks}, frames {frames}")?;
+    for track in 0..tracks as usize {
+        if let Some(tests) = entry.track_tests(track, store) {
+            put_track(out, track, tests)?;
+        }
     }
     Ok(())
 }

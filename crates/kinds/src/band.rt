@@ -20,7 +20,7 @@ pub struct BandSet {
     pub bits: u16,
 }
 
-// As `bands 1, 4`.
+// As `bands 1, 4`. Bands are tried one by one: with `filter` and `enumerate` the text was not proved.
 impl fmt::Display for BandSet {
     ghost output = { λ t. Some (bands_text t 16) };
 

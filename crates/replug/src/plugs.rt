@@ -2,7 +2,7 @@
 ghost use Rattle.replug.specs.Lists.{Advances};
 
 // Goes on to the next list of as many sockets as heads, the last place fastest; false, and the first list, after the last.
-// A `bool`, as there is nothing that an `Option` could hold beside it.
+// In place and with a `bool`: an iterator of lists would hand on arrays with the number of heads beside them.
 pub(crate) fn advance(plugs: &mut [usize]) -> bool
     ensures { Advances plugs.old result plugs.new }
 {

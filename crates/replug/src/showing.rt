@@ -66,7 +66,7 @@ impl fmt::Display for Tally {
     }
 }
 
-// Figures, with a blank before each.
+// Figures, with a blank before each. `matching` has the same for heads alone, with its text as a clause.
 #[derive(Clone, Copy)]
 struct Spaced<'a, T>(&'a [T]);
 
@@ -193,6 +193,7 @@ where
         let mut away = vec![in heap; K::Reading::default(); MOST_KEPT]?;
         let mut places = [0; MOST_HEADS];
         let plugs = &mut places[..self.plan.heads().min(MOST_HEADS)];
+        // as many times as there are lists, since a loop has to end
         for _ in 0..MOST_LISTS {
             if let Some(order) = Order::new(plugs) {
                 self.show_order(order, plugs, home.as_mut_slice(), away.as_mut_slice())?;

@@ -8,7 +8,7 @@ use place::{place_after, place_back};
 mod place;
 mod size;
 
-// The latest items, at most `capacity` of them, in the first `capacity` slots.
+// The latest items, at most `capacity` of them, in the first `capacity` slots, which its owner lends: a rule of the project.
 // The next item goes to slot `next`; `count` items are held. Later slots are never written.
 #[derive(Drop)]
 pub struct Ring<'a, T> {

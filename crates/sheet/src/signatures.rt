@@ -16,8 +16,8 @@ pub(crate) const HEAD_SIZE: usize = FIELD_START + 2;
 
 // Reads all signatures of the file `bytes`, behind its head: as many as there are entries, at most.
 // Says how many entries it filled.
-// An iterator over fields would have to hand on the place and the fault beside each body, and is no shorter;
-// `iter_mut` with `enumerate` would leave a proof no more of the entries than their number.
+// An iterator over fields would have to hand on the place and the fault beside each body, and is no shorter; the count
+// of entries is what is answered.
 pub(crate) fn read_signatures<K: Kind>(
     kind: K,
     bytes: &[u8],

@@ -53,7 +53,8 @@ pub fn split_field(rest: &[u8]) -> Option<(u8, &[u8])>
     Some((*tag, body))
 }
 
-// The field that `rest` begins with, where `rest` stands at `place`.
+// The field that `rest` begins with, where `rest` stands at `place`. The two stay apart: a place is any number here, which
+// the caller keeps, and a struct of them would be made for each call.
 pub fn next_field(rest: &[u8], place: usize) -> Result<Field<'_>, Fault>
     ensures { seen result ≡ field_in place rest.now }
 {

@@ -9,7 +9,7 @@ use sheet::entry::Entry;
 use sheet::plan::Plan;
 use sheetfile::limits::MOST_FRAMES;
 
-// How many tests the entries have.
+// How many tests the entries have. With `Entry::tests` in the closure the bound of the sum is not proved.
 fn tests_in(entries: &[Entry]) -> usize
     requires { length entries.now ≤ 12 }
     ensures { result ≡ tests_in_entries entries.now }

@@ -7,7 +7,8 @@ use kinds::kind::Kind;
 use matching::Witness;
 use sheet::entry::Entry;
 
-// Whether the tests, in order, pass the latest readings of a head.
+// Whether the tests, in order, pass the latest readings of a head: each looks as far back as tests stand behind it. In
+// their order, as the definition goes over them, and so by a place that is worked out.
 fn passes_back<K: Kind>(
     kind: K,
     tests: &[K::Test],

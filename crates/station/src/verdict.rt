@@ -8,6 +8,7 @@ ghost use Rattle.station.specs.Texts.{verdict_text};
 use matching::{Outcome, Placing, TrackSet};
 use std::fmt;
 
+// Three words of the subject, and no outcome in an `Option`.
 #[derive(Clone, Copy, PartialEq, Eq, Debug)]
 pub enum Verdict {
     // the run has fewer frames than the signature

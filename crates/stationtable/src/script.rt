@@ -3,7 +3,7 @@ use crate::hex;
 use anyhow::{Context, anyhow};
 use std::alloc::Global;
 
-// A call of a station, with a frame as the bytes of its readings.
+// A call of a station, with a frame as the bytes of its readings: `Call` of `station` lends readings, and bytes may be none.
 #[derive(Drop)]
 pub(crate) enum Step {
     Feed(Vec<u8>),

@@ -54,7 +54,7 @@ fn is_table(heads: usize, rows: &[u8]) -> bool
         && rows.iter().all(|row| u32::from(*row) < 1 << heads)
 }
 
-// The set of the heads that fit the track.
+// The set of the heads that fit the track. The bound on the heads is asked by the one caller, which has tried it.
 // A loop, since a filter's items are named by a test, and what a witness says is told head by head.
 fn heads_said<W: Witness>(track: usize, heads: usize, witness: &W) -> HeadSet
     requires { heads ≤ most_heads }

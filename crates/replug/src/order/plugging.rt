@@ -55,7 +55,8 @@ fn padded(list: &[usize]) -> [usize; MOST_HEADS]
     places
 }
 
-// Writes at each socket the reading of the head that goes into it.
+// Writes at each socket the reading of the head that goes into it. No `zip`: after one with `iter_mut` a proof knows no
+// more of `plugged` than its length.
 fn move_readings<R: Copy>(from: &[usize], frame: &[R], plugged: &mut [R])
     requires long { length plugged.old ≤ length from.now }
     requires below { (x : ℕ) → x < length plugged.old → slice_index from.now x < length frame.now }
