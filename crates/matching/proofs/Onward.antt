@@ -45,6 +45,10 @@ onward_end f t free heads e =
     none_after [] (suc n) = refl
     none_after (x ∷ xs) (suc n) = none_after xs n
 
+-- The same of the heads of a placing of as many tracks.
+pub placed_end : (f : Fits) (t free : ℕ) (p : Placing) → t ≡ f.tracks → p.tracks ≡ f.tracks → Some (drop t (heads_of p)) ≡ onward f t free
+placed_end f t free p e w = ap (λ n. Some (drop t (take n p.heads))) (w ∙ sym e) ∙ onward_end f t free p.heads e
+
 -- From the first track on, with all eight heads free.
 pub onward_all : (f : Fits) → onward f 0 255 ≡ first_placing_of (fitting f) f.tracks 8
 unfolding onward
