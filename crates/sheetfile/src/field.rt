@@ -24,10 +24,12 @@ impl TryFrom<u8> for Tag {
     ghost try_from_gives = { λ byte r. r ≡ tag_of byte };
 
     fn try_from(byte: u8) -> Result<Self, Cause> {
-        [Tag::Head, Tag::Signature, Tag::Track]
-            .into_iter()
-            .find(|tag| *tag as u8 == byte)
-            .ok_or(Cause::Tag)
+        match byte {
+            b if b == Tag::Head as u8 => Ok(Tag::Head),
+            b if b == Tag::Signature as u8 => Ok(Tag::Signature),
+            b if b == Tag::Track as u8 => Ok(Tag::Track),
+            _ => Err(Cause::Tag),
+        }
     }
 }
 
