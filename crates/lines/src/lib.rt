@@ -1,20 +1,71 @@
 // The lines of a listing, as bytes.
 #![tactic(auto)]
 
-ghost use Rattle.std.specs.Prelude.{◌≡◌, ◌++◌, decimal, OnOk, Some};
+ghost use Rattle.std.specs.Prelude.{◌≡◌, ◌++◌, decimal, OnOk, IfSome, Some};
 ghost use Rattle.sheetfile.specs.Card.{told};
 ghost use Rattle.lines.specs.Lines.{figures, report_line, end_line, fault_line};
 
 use sheetfile::fault::Fault;
 use std::alloc::AllocError;
 use std::fmt;
-use std::io::Write;
 
-// Adds a number in decimal, without leading zeros. Writing into a `Vec` fails for want of memory alone.
+// Lines that text is added to: each part is one append.
+struct Lines<'a>(&'a mut Vec<u8>);
+
+impl fmt::Write for Lines<'_> {
+    ghost write_str_gives = { λ old text new. (new.0.ghost_name ≡ old.0.ghost_name) × (new.0.now.items ≡ old.0.now.items ++ text) };
+
+    fn write_str(&mut self, text: &str) -> fmt::Result {
+        self.0
+            .extend_from_slice(text.as_bytes())
+            .map_err(|_| fmt::Error)
+    }
+}
+
+// What `write!` and `writeln!` call at a `Vec` here: `io::Write` adds each part of a line in twice the steps or more.
+trait Append {
+    fn write_fmt<D: fmt::Display + Drop>(&mut self, text: D) -> fmt::Result;
+}
+
+impl Append for Vec<u8> {
+    // Adds a text. Where the text's own `fmt` does not fail, it fails for want of memory alone.
+    fn write_fmt<D: fmt::Display + Drop>(&mut self, text: D) -> fmt::Result
+        ensures { OnOk result (IfSome (D.output text) (λ bytes. self.new.items ≡ self.old.items ++ bytes)) }
+    {
+        let mut f = fmt::Formatter::new(Lines(self));
+        let result = f.write(text);
+        let Lines(out) = f.into_inner();
+        // No effect at run time. The proof reads what `self` holds from this use of `out`.
+        let _ = &*out;
+        result
+    }
+}
+
+// Adds a number in decimal, without leading zeros.
 pub fn push_decimal(out: &mut Vec<u8>, number: u64) -> Result<(), AllocError>
     ensures { OnOk result (out.new.items ≡ out.old.items ++ decimal number) }
 {
     write!(out, "{number}").map_err(|_| AllocError)
+}
+
+// The text of a number of one figure.
+#[tactic(auto, using(std::proofs::lemmas::Fmt::decimal_digit))]
+fn figure(number: u8) -> Option<&'static str>
+    ensures { IfSome result (λ text. text.now ≡ decimal number) }
+{
+    match number {
+        0 => Some("0"),
+        1 => Some("1"),
+        2 => Some("2"),
+        3 => Some("3"),
+        4 => Some("4"),
+        5 => Some("5"),
+        6 => Some("6"),
+        7 => Some("7"),
+        8 => Some("8"),
+        9 => Some("9"),
+        _ => None,
+    }
 }
 
 // Heads, each in decimal, one after another: heads are below 8, so each has one figure.
@@ -26,7 +77,10 @@ impl fmt::Display for Figures<'_> {
 
     fn fmt<W: fmt::Write>(&self, f: &mut fmt::Formatter<W>) -> fmt::Result {
         for head in self.0 {
-            write!(f, "{head}")?;
+            match figure(*head) {
+                Some(text) => f.write_str(text)?,
+                None => write!(f, "{head}")?,
+            }
         }
         Ok(())
     }
