@@ -1,14 +1,14 @@
 // The text of a sheet file.
-ghost use Rattle.std.specs.Prelude.{IfOk, string_bytes};
+ghost use Rattle.std.specs.Prelude.{IfOk, length, string_bytes};
 ghost use Rattle.kinds.specs.Known.{picked};
 ghost use Rattle.sheetfile.specs.Reading.{rule};
 ghost use Rattle.describe.specs.Texts.{RefusedText, Tells, TellsFile};
 
-use kinds::band::Band;
-use kinds::climate::Climate;
+use kinds::band::{Band, BandSet};
+use kinds::climate::{Climate, ClimateTest};
 use kinds::kind::Kind;
 use kinds::known::KnownKind;
-use kinds::span::Span;
+use kinds::span::{MoistureSpan, Span};
 use sheet::entry::Entry;
 use sheet::plan::Plan;
 use sheet::read_sheet;
@@ -70,21 +70,21 @@ fn fault_words(heap: Global, fault: &Fault) -> Result<String, AllocError>
     format!(in heap; "{fault}\n{cause} at byte {place}\n")
 }
 
-// What the file says when it is read as this kind's, or what is wrong with it.
+// What the file says when it is read as this kind's, or what is wrong with it. The store is lent: reading asks for no memory.
 fn file_words<K: Kind>(
     heap: Global,
     kind: K,
     known: KnownKind,
     bytes: &[u8],
+    store: &mut [K::Test],
 ) -> Result<String, fmt::Error>
 where
-    K::Test: Default + Display,
-    ensures { IfOk result (λ t. Tells (rule K.facts.code K.facts.tests 6144 bytes.now).end (string_bytes t)) }
+    K::Test: Display,
+    ensures { IfOk result (λ t. Tells (rule K.facts.code K.facts.tests (length store.old) bytes.now).end (string_bytes t)) }
 {
     let mut plan = Plan::empty();
-    let mut store = vec![in heap; K::Test::default(); MOST_TESTS]?;
-    match read_sheet(kind, bytes, &mut plan, store.as_mut_slice()) {
-        Ok(()) => sheet_words(heap, known, &plan, store.as_slice()),
+    match read_sheet(kind, bytes, &mut plan, store) {
+        Ok(()) => sheet_words(heap, known, &plan, store),
         Err(fault) => Ok(fault_words(heap, &fault)?),
     }
 }
@@ -95,8 +95,32 @@ pub fn sheet_text(heap: Global, bytes: &[u8]) -> Result<String, fmt::Error>
 {
     let known = KnownKind::of_sheet(bytes);
     match known {
-        KnownKind::Band => file_words(heap, Band, known, bytes),
-        KnownKind::Span => file_words(heap, Span, known, bytes),
-        KnownKind::Climate => file_words(heap, Climate, known, bytes),
+        KnownKind::Band => {
+            file_words(
+                heap,
+                Band,
+                known,
+                bytes,
+                &mut [BandSet::default(); MOST_TESTS],
+            )
+        }
+        KnownKind::Span => {
+            file_words(
+                heap,
+                Span,
+                known,
+                bytes,
+                &mut [MoistureSpan::default(); MOST_TESTS],
+            )
+        }
+        KnownKind::Climate => {
+            file_words(
+                heap,
+                Climate,
+                known,
+                bytes,
+                &mut [ClimateTest::default(); MOST_TESTS],
+            )
+        }
     }
 }

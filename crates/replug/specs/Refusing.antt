@@ -16,10 +16,9 @@ abbrev pub trouble_text : Trouble → List ℕ
 trouble_text (ByFault e) = fault_text (told e)
 trouble_text Text = codes "no memory for the text"
 
--- it is this fault, or memory ran out
+-- it is this fault: no memory is asked for before the sheet is read, so none can run out
 abbrev pub Tells : Fault → Trouble → Type 0
-Tells e (ByFault d) = d ≡ e
-Tells e Text = Unit {0}
+Tells e t = t ≡ ByFault e
 
 -- a sheet that reads with this end: after a fault there is no text, and the trouble tells the fault
 abbrev pub Refuses : {A T : Type 0} → Result A Fault → Result T Trouble → Type 0

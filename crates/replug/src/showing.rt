@@ -10,17 +10,13 @@ use kinds::kind::Kind;
 use runfile::field::{FIELD_START, RunField, next_run_field};
 use runfile::frame::read_frame;
 use sheet::plan::Plan;
-use sheetfile::limits::{MOST_FRAMES, MOST_HEADS};
+use sheetfile::limits::MOST_HEADS;
 use station::verdict::Verdict;
-use std::alloc::{AllocError, Global};
 use std::fmt;
 use std::fmt::{Display, Write};
 
 // lists of as many sockets as heads, at most: 8 ^ 8
 const MOST_LISTS: usize = 16_777_216;
-
-// readings that the longest tail keeps
-const MOST_KEPT: usize = MOST_FRAMES * MOST_HEADS;
 
 // How many plug orders there were, and how often the two lines agreed and differed.
 #[derive(Clone, Copy, Default, PartialEq, Eq, Debug)]
@@ -79,43 +75,20 @@ impl<T: Display> fmt::Display for Spaced<'_, T> {
     }
 }
 
-// A sheet and a run that are shown, the text so far, and places for a frame as it is read and as it is plugged.
+// A sheet and a run that are shown, a place for a frame as it is read, and the text that is added to. The place for a frame
+// as it is plugged goes with the calls: two loans out of one struct are not covered by the borrow checker here.
 #[derive(Drop)]
-pub(crate) struct Showing<'a, K: Kind> {
+struct Showing<'a, K: Kind> {
     kind: K,
     plan: &'a Plan,
     tests: &'a [K::Test],
     run: &'a [u8],
-    frame: Vec<K::Reading>,
-    plugged: Vec<K::Reading>,
+    frame: &'a mut [K::Reading],
     tally: Tally,
-    text: String,
+    text: &'a mut String,
 }
 
-impl<'a, K: Kind> Showing<'a, K>
-where
-    K::Reading: Default,
-{
-    // Nothing shown yet.
-    pub(crate) fn new(
-        heap: Global,
-        kind: K,
-        plan: &'a Plan,
-        tests: &'a [K::Test],
-        run: &'a [u8],
-    ) -> Result<Showing<'a, K>, AllocError> {
-        Ok(Showing {
-            kind,
-            plan,
-            tests,
-            run,
-            frame: vec![in heap; K::Reading::default(); plan.heads()]?,
-            plugged: vec![in heap; K::Reading::default(); plan.heads()]?,
-            tally: Tally::default(),
-            text: String::new(heap),
-        })
-    }
-
+impl<K: Kind> Showing<'_, K> {
     // Compares the two lines at every signature after a frame; those seen on the second go into the text.
     fn compare(&mut self, twins: &Twins<'_, '_, '_, '_, K>, number: usize) -> fmt::Result {
         for (position, entry) in self.plan.entries().iter().enumerate() {
@@ -136,12 +109,14 @@ where
         twins: &mut Twins<'_, '_, '_, '_, K>,
         field: RunField<'_>,
         number: usize,
+        plugged: &mut [K::Reading],
     ) -> Result<usize, Trouble> {
         match field {
             RunField::Frame(body, at) => {
                 let start = at.saturating_add(FIELD_START);
-                read_frame(self.kind, body, start, self.frame.as_mut_slice())?;
-                let _ = twins.feed(self.frame.as_slice(), self.plugged.as_mut_slice());
+                let kind = self.kind;
+                read_frame(kind, body, start, self.frame)?;
+                let _ = twins.feed(self.frame, plugged);
                 let next = number.saturating_add(1);
                 self.compare(twins, next)?;
                 Ok(next)
@@ -154,7 +129,11 @@ where
     }
 
     // Works both lines by the run. An iterator over fields would have to hand on the fault beside each field, and is no shorter.
-    fn work(&mut self, twins: &mut Twins<'_, '_, '_, '_, K>) -> Result<(), Trouble> {
+    fn work(
+        &mut self,
+        twins: &mut Twins<'_, '_, '_, '_, K>,
+        plugged: &mut [K::Reading],
+    ) -> Result<(), Trouble> {
         let frame_bytes = self.frame.len().saturating_mul(K::R);
         let mut rest = self.run;
         let mut place = 0usize;
@@ -163,47 +142,75 @@ where
         while !rest.is_empty() {
             let field = next_run_field(rest, place, frame_bytes)?;
             let size = field.size();
-            number = self.work_field(twins, field, number)?;
+            number = self.work_field(twins, field, number, plugged)?;
             rest = &rest[size.min(rest.len())..];
             place = place.saturating_add(size);
         }
         Ok(())
     }
 
-    // A line of the text: the order, and what the line plugged so sees. Memory for two tails is lent.
+    // A line of the text: the order, and what the line plugged so sees.
     fn show_order(
         &mut self,
         order: Order,
         plugs: &[usize],
         home: &mut [K::Reading],
         away: &mut [K::Reading],
+        plugged: &mut [K::Reading],
     ) -> Result<(), Trouble> {
         let sockets = Spaced(plugs);
         write!(self.text, "sockets{sockets}")?;
         let mut twins = Twins::new(self.kind, order, self.plan, self.tests, home, away);
-        self.work(&mut twins)?;
+        self.work(&mut twins, plugged)?;
         writeln!(self.text)?;
         self.tally.orders = self.tally.orders.saturating_add(1);
         Ok(())
     }
 
-    // The text: a line for each plug order, and last the tally.
-    pub(crate) fn show_orders(mut self, heap: Global) -> Result<String, Trouble> {
-        let mut home = vec![in heap; K::Reading::default(); MOST_KEPT]?;
-        let mut away = vec![in heap; K::Reading::default(); MOST_KEPT]?;
+    // A line of the text for each plug order. Memory for two tails and for a frame as it is plugged is lent.
+    fn show_all(
+        &mut self,
+        home: &mut [K::Reading],
+        away: &mut [K::Reading],
+        plugged: &mut [K::Reading],
+    ) -> Result<(), Trouble> {
         let mut places = [0; MOST_HEADS];
         let plugs = &mut places[..self.plan.heads().min(MOST_HEADS)];
         // as many times as there are lists, since a loop has to end
         for _ in 0..MOST_LISTS {
             if let Some(order) = Order::new(plugs) {
-                self.show_order(order, plugs, home.as_mut_slice(), away.as_mut_slice())?;
+                self.show_order(order, plugs, home, away, plugged)?;
             }
             if !advance(plugs) {
                 break;
             }
         }
-        let tally = self.tally;
-        writeln!(self.text, "{tally}")?;
-        Ok(self.text)
+        Ok(())
     }
+}
+
+// A line for each plug order: the order, and what the line plugged so sees; last, whether every verdict agrees with that
+// of the line as it is. Memory for two tails and two frames is lent.
+pub fn show_orders<'x, K: Kind>(
+    kind: K,
+    plan: &'x Plan,
+    tests: &'x [K::Test],
+    run: &'x [u8],
+    home: &mut [K::Reading],
+    away: &mut [K::Reading],
+    frame: &'x mut [K::Reading],
+    plugged: &mut [K::Reading],
+    out: &'x mut String,
+) -> Result<Tally, Trouble> {
+    let mut showing = Showing {
+        kind,
+        plan,
+        tests,
+        run,
+        frame,
+        tally: Tally::default(),
+        text: out,
+    };
+    showing.show_all(home, away, plugged)?;
+    Ok(showing.tally)
 }

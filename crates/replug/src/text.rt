@@ -4,29 +4,71 @@ ghost use Rattle.kinds.specs.Known.{picked};
 ghost use Rattle.sheetfile.specs.Reading.{rule};
 ghost use Rattle.replug.specs.Refusing.{Refuses, RefusesFile};
 
-use crate::showing::Showing;
+use crate::showing::show_orders;
 use crate::trouble::Trouble;
-use kinds::band::Band;
-use kinds::climate::Climate;
+use kinds::band::{Band, BandSet};
+use kinds::climate::{Climate, ClimateReading, ClimateTest};
 use kinds::kind::Kind;
 use kinds::known::KnownKind;
-use kinds::span::Span;
+use kinds::span::{MoistureSpan, Span};
 use sheet::plan::Plan;
 use sheet::read_sheet;
-use sheetfile::limits::MOST_TESTS;
+use sheetfile::limits::{MOST_FRAMES, MOST_HEADS, MOST_TESTS};
 use std::alloc::Global;
+use std::fmt::Write;
 
-// The text of a sheet of this kind.
-fn kind_text<K: Kind>(heap: Global, kind: K, sheet: &[u8], run: &[u8]) -> Result<String, Trouble>
-where
-    K::Test: Default,
-    K::Reading: Default,
-    ensures { Refuses (rule K.facts.code K.facts.tests 6144 sheet.now).end result }
+// readings that the longest tail keeps
+const MOST_KEPT: usize = MOST_FRAMES * MOST_HEADS;
+
+// The text of a sheet of this kind. Memory for tests, two tails and two frames is lent: until a line of text is written,
+// none is asked for.
+fn kind_text<K: Kind>(
+    heap: Global,
+    kind: K,
+    sheet: &[u8],
+    run: &[u8],
+    tests: &mut [K::Test],
+    home: &mut [K::Reading],
+    away: &mut [K::Reading],
+    frame: &mut [K::Reading],
+    plugged: &mut [K::Reading],
+) -> Result<String, Trouble>
+    ensures { Refuses (rule K.facts.code K.facts.tests (length tests.old) sheet.now).end result }
 {
     let mut plan = Plan::empty();
-    let mut tests = vec![in heap; K::Test::default(); MOST_TESTS]?;
-    read_sheet(kind, sheet, &mut plan, tests.as_mut_slice())?;
-    Showing::new(heap, kind, &plan, tests.as_slice(), run)?.show_orders(heap)
+    read_sheet(kind, sheet, &mut plan, tests)?;
+    let heads = plan.heads().min(frame.len()).min(plugged.len());
+    let mut text = String::new(heap);
+    let tally = show_orders(
+        kind,
+        &plan,
+        tests,
+        run,
+        home,
+        away,
+        &mut frame[..heads],
+        &mut plugged[..heads],
+        &mut text,
+    )?;
+    writeln!(text, "{tally}")?;
+    Ok(text)
+}
+
+// The same with memory for readings and tests of these types in fixed places.
+macro_rules! in_fixed_memory {
+    ($heap:expr, $kind:expr, $sheet:expr, $run:expr, $test:ty, $reading:ty) => {
+        kind_text(
+            $heap,
+            $kind,
+            $sheet,
+            $run,
+            &mut [<$test>::default(); MOST_TESTS],
+            &mut [<$reading>::default(); MOST_KEPT],
+            &mut [<$reading>::default(); MOST_KEPT],
+            &mut [<$reading>::default(); MOST_HEADS],
+            &mut [<$reading>::default(); MOST_HEADS],
+        )
+    };
 }
 
 // A line for each plug order of the sheet's heads, and what the line plugged so sees over the run; last, whether every
@@ -35,8 +77,10 @@ pub fn replug_text(heap: Global, sheet: &[u8], run: &[u8]) -> Result<String, Tro
     ensures { RefusesFile (picked sheet.now) sheet.now result }
 {
     match KnownKind::of_sheet(sheet) {
-        KnownKind::Band => kind_text(heap, Band, sheet, run),
-        KnownKind::Span => kind_text(heap, Span, sheet, run),
-        KnownKind::Climate => kind_text(heap, Climate, sheet, run),
+        KnownKind::Band => in_fixed_memory!(heap, Band, sheet, run, BandSet, u8),
+        KnownKind::Span => in_fixed_memory!(heap, Span, sheet, run, MoistureSpan, u16),
+        KnownKind::Climate => {
+            in_fixed_memory!(heap, Climate, sheet, run, ClimateTest, ClimateReading)
+        }
     }
 }

@@ -2,11 +2,12 @@
 use crate::hex::Hex;
 use crate::readings::{Raw, frame};
 use crate::script::{Case, Step};
-use kinds::band::Band;
-use kinds::climate::Climate;
+use anyhow::Context;
+use kinds::band::{Band, BandSet};
+use kinds::climate::{Climate, ClimateReading, ClimateTest};
 use kinds::kind::Kind;
 use kinds::known::KnownKind;
-use kinds::span::Span;
+use kinds::span::{MoistureSpan, Span};
 use sheet::plan::Plan;
 use sheet::read_sheet;
 use sheetfile::fault::Fault;
@@ -21,20 +22,23 @@ use std::fmt::Write;
 // readings in the tail of a line of as many heads as there may be
 const MOST_MEMORY: usize = MOST_FRAMES * MOST_HEADS;
 
-// The answer to a line.
-#[derive(Drop)]
-enum Answer {
+// bytes of a reading, at most
+const MOST_WIDTH: usize = 4;
+
+// The answer to a line; a reading by its bytes.
+#[derive(Clone, Copy)]
+enum Answer<'a> {
     Made,
     Fault(Fault),
     Done,
     Refused(Refusal),
     Verdict(Verdict),
-    Reading(Vec<u8>),
+    Reading(&'a [u8]),
     Absent,
 }
 
-impl From<Result<(), Fault>> for Answer {
-    fn from(made: Result<(), Fault>) -> Answer {
+impl From<Result<(), Fault>> for Answer<'_> {
+    fn from(made: Result<(), Fault>) -> Self {
         match made {
             Ok(()) => Answer::Made,
             Err(fault) => Answer::Fault(fault),
@@ -42,8 +46,8 @@ impl From<Result<(), Fault>> for Answer {
     }
 }
 
-impl From<Result<(), Refusal>> for Answer {
-    fn from(fed: Result<(), Refusal>) -> Answer {
+impl From<Result<(), Refusal>> for Answer<'_> {
+    fn from(fed: Result<(), Refusal>) -> Self {
         match fed {
             Ok(()) => Answer::Done,
             Err(refusal) => Answer::Refused(refusal),
@@ -51,8 +55,8 @@ impl From<Result<(), Refusal>> for Answer {
     }
 }
 
-impl From<Result<Verdict, Refusal>> for Answer {
-    fn from(look: Result<Verdict, Refusal>) -> Answer {
+impl From<Result<Verdict, Refusal>> for Answer<'_> {
+    fn from(look: Result<Verdict, Refusal>) -> Self {
         match look {
             Ok(verdict) => Answer::Verdict(verdict),
             Err(refusal) => Answer::Refused(refusal),
@@ -60,7 +64,7 @@ impl From<Result<Verdict, Refusal>> for Answer {
     }
 }
 
-impl fmt::Display for Answer {
+impl fmt::Display for Answer<'_> {
     fn fmt<W: fmt::Write>(&self, f: &mut fmt::Formatter<W>) -> fmt::Result {
         match self {
             Answer::Made => write!(f, "made"),
@@ -69,7 +73,7 @@ impl fmt::Display for Answer {
             Answer::Refused(refusal) => write!(f, "refused {refusal}"),
             Answer::Verdict(verdict) => write!(f, "{verdict}"),
             Answer::Reading(bytes) => {
-                let hex = Hex(bytes.as_slice());
+                let hex = Hex(bytes);
                 write!(f, "{hex}")
             }
             Answer::Absent => write!(f, "absent"),
@@ -77,16 +81,16 @@ impl fmt::Display for Answer {
     }
 }
 
-// The answer to a look-back, a reading by its bytes.
-fn back_answer<K: Kind>(
-    heap: Global,
+// The answer to a look-back; the bytes of a reading are written into the buffer.
+fn back_answer<'a, K: Kind>(
     kind: K,
     back: Result<Option<K::Reading>, Refusal>,
-) -> anyhow::Result<Answer> {
+    buffer: &'a mut [u8],
+) -> anyhow::Result<Answer<'a>> {
     match back {
         Ok(Some(reading)) => {
-            let mut bytes = vec![in heap; 0u8; K::R]?;
-            kind.write_reading(&reading, bytes.as_mut_slice())?;
+            kind.write_reading(&reading, buffer)?;
+            let bytes = buffer.get(..K::R).context("a reading has more bytes")?;
             Ok(Answer::Reading(bytes))
         }
         Ok(None) => Ok(Answer::Absent),
@@ -95,12 +99,13 @@ fn back_answer<K: Kind>(
 }
 
 // Makes one call; what the station answers. A step is a value, since a line of the script says which it is.
-fn step_answer<K: Kind>(
+fn step_answer<'a, K: Kind>(
     heap: Global,
     kind: K,
     station: &mut Station<'_, '_, '_, K>,
     step: &Step,
-) -> anyhow::Result<Answer>
+    buffer: &'a mut [u8],
+) -> anyhow::Result<Answer<'a>>
 where
     K::Reading: Raw,
 {
@@ -115,36 +120,53 @@ where
         }
         Step::Look(position) => Ok(Answer::from(station.look(*position))),
         Step::Recheck(position) => Ok(Answer::from(station.recheck(*position))),
-        Step::Back { q, head } => back_answer(heap, kind, station.look_back(*q, *head)),
+        Step::Back { q, head } => back_answer(kind, station.look_back(*q, *head), buffer),
     }
 }
 
-// The answers to a case of this kind.
-fn case_answers<K: Kind>(heap: Global, kind: K, case: &Case) -> anyhow::Result<String>
+// The answers to a case of this kind. Memory for its tests and for a tail is lent.
+fn case_answers<K: Kind>(
+    heap: Global,
+    kind: K,
+    case: &Case,
+    store: &mut [K::Test],
+    memory: &mut [K::Reading],
+) -> anyhow::Result<String>
 where
-    K::Test: Default,
-    K::Reading: Default + Raw,
+    K::Reading: Raw,
 {
-    let mut store = vec![in heap; K::Test::default(); MOST_TESTS]?;
-    let mut memory = vec![in heap; K::Reading::default(); MOST_MEMORY]?;
     let mut out = String::new(heap);
     let mut plan = Plan::empty();
-    let made = read_sheet(kind, case.sheet.as_slice(), &mut plan, store.as_mut_slice());
+    let made = read_sheet(kind, case.sheet.as_slice(), &mut plan, store);
     let answer = Answer::from(made);
     writeln!(out, "{answer}")?;
-    let mut station = Station::new(kind, &plan, store.as_slice(), memory.as_mut_slice());
+    let mut station = Station::new(kind, &plan, store, memory);
     for step in case.steps.iter() {
-        let answer = step_answer(heap, kind, &mut station, step)?;
+        let mut buffer = [0; MOST_WIDTH];
+        let answer = step_answer(heap, kind, &mut station, step, &mut buffer)?;
         writeln!(out, "{answer}")?;
     }
     Ok(out)
 }
 
+// The same with memory for readings and tests of these types in fixed places.
+macro_rules! in_fixed_memory {
+    ($heap:expr, $kind:expr, $case:expr, $test:ty, $reading:ty) => {
+        case_answers(
+            $heap,
+            $kind,
+            $case,
+            &mut [<$test>::default(); MOST_TESTS],
+            &mut [<$reading>::default(); MOST_MEMORY],
+        )
+    };
+}
+
 // The answers to a case, a line for each of its lines.
 pub(crate) fn to_case(heap: Global, case: &Case) -> anyhow::Result<String> {
     match KnownKind::of_sheet(case.sheet.as_slice()) {
-        KnownKind::Band => case_answers(heap, Band, case),
-        KnownKind::Span => case_answers(heap, Span, case),
-        KnownKind::Climate => case_answers(heap, Climate, case),
+        KnownKind::Band => in_fixed_memory!(heap, Band, case, BandSet, u8),
+        KnownKind::Span => in_fixed_memory!(heap, Span, case, MoistureSpan, u16),
+        KnownKind::Climate => in_fixed_memory!(heap, Climate, case, ClimateTest, ClimateReading),
     }
 }
