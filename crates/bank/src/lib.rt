@@ -14,7 +14,7 @@ use kinds::kind::Kind;
 use matching::Fits;
 use rows::Row;
 use sheet::entry::Entry;
-use sheetfile::limits::{MOST_HEADS, MOST_SIGNATURES};
+use sheetfile::limits::MOST_SIGNATURES;
 use signature_rows::SignatureRows;
 
 mod complete;

@@ -76,7 +76,8 @@ impl<T: Display> fmt::Display for Spaced<'_, T> {
 }
 
 // A sheet and a run that are shown, a place for a frame as it is read, and the text that is added to. The place for a frame
-// as it is plugged goes with the calls: two loans out of one struct are not covered by the borrow checker here.
+// as it is plugged goes with the calls: as a field it would be a second `&mut` of the struct in the one call of `feed`, which
+// the borrow checker does not cover.
 #[derive(Drop)]
 struct Showing<'a, K: Kind> {
     kind: K,
@@ -114,8 +115,7 @@ impl<K: Kind> Showing<'_, K> {
         match field {
             RunField::Frame(body, at) => {
                 let start = at.saturating_add(FIELD_START);
-                let kind = self.kind;
-                read_frame(kind, body, start, self.frame)?;
+                read_frame(self.kind, body, start, self.frame)?;
                 let _ = twins.feed(self.frame, plugged);
                 let next = number.saturating_add(1);
                 self.compare(twins, next)?;
@@ -191,16 +191,16 @@ impl<K: Kind> Showing<'_, K> {
 
 // A line for each plug order: the order, and what the line plugged so sees; last, whether every verdict agrees with that
 // of the line as it is. Memory for two tails and two frames is lent.
-pub fn show_orders<'x, K: Kind>(
+pub fn show_orders<'a, K: Kind>(
     kind: K,
-    plan: &'x Plan,
-    tests: &'x [K::Test],
-    run: &'x [u8],
+    plan: &'a Plan,
+    tests: &'a [K::Test],
+    run: &'a [u8],
     home: &mut [K::Reading],
     away: &mut [K::Reading],
-    frame: &'x mut [K::Reading],
+    frame: &'a mut [K::Reading],
     plugged: &mut [K::Reading],
-    out: &'x mut String,
+    out: &'a mut String,
 ) -> Result<Tally, Trouble> {
     let mut showing = Showing {
         kind,

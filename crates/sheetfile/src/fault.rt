@@ -58,7 +58,7 @@ impl Cause {
     pub fn number(self) -> u8
         ensures { result ≡ number self }
     {
-        self as u8 // as beside its case
+        self as u8 // the number beside its case
     }
 
     pub fn layer(self) -> Layer
@@ -92,7 +92,7 @@ impl Layer {
     pub fn number(self) -> u8
         ensures { result ≡ layer_number self }
     {
-        self as u8 // 1 bytes, 2 fields, 3 sheet
+        self as u8 // here too
     }
 }
 

@@ -25,7 +25,7 @@ struct Search<'a> {
 impl Search<'_> {
     // Places the tracks from `track` on, on free heads: each on the least head that leaves a placing of the tracks after it.
     // No set of free heads is searched twice. The placing stays in the search: handed up by value from track to track it
-    // cost small tables twice the time.
+    // cost small tables more than twice the time.
     fn place(&mut self, track: usize, free: HeadSet) -> Option<()>
         requires left { track ≤ self.old.fits.now.tracks }
         requires taken { track + size free.number ≡ 8 }
