@@ -1,2 +1,3 @@
 pub mod Twinned
 mod Refusing
+mod Carried

@@ -1,6 +1,9 @@
 // What a line shows over a recorded run, in every plug order.
-ghost use Rattle.std.specs.Prelude.{Some};
+ghost use Rattle.std.specs.Prelude.{◌≡◌, length, IfOk, Ok, Some};
+ghost use Rattle.station.specs.Making.{making};
+ghost use Rattle.station.specs.Snap.{snap};
 ghost use Rattle.replug.specs.Tallies.{tally_text, Counts};
+ghost use Rattle.replug.specs.Twins.{Twinned};
 
 use crate::order::Order;
 use crate::plugs::advance;
@@ -91,7 +94,11 @@ struct Showing<'a, K: Kind> {
 
 impl<K: Kind> Showing<'_, K> {
     // Compares the two lines at every signature after a frame; those seen on the second go into the text.
-    fn compare(&mut self, twins: &Twins<'_, '_, '_, '_, K>, number: usize) -> fmt::Result {
+    fn compare(&mut self, twins: &Twins<'_, '_, '_, '_, K>, number: usize) -> fmt::Result
+        ensures plan { self.new.plan ≡ self.old.plan }
+        ensures tests { self.new.tests ≡ self.old.tests }
+        ensures differed { Twinned K.facts.readings.proper K.facts.passes twins.now.order (snap twins.now.home) (snap twins.now.away) → self.new.tally.differed ≡ self.old.tally.differed }
+    {
         for (position, entry) in self.plan.entries().iter().enumerate() {
             let looked = twins.look(position);
             self.tally.count(looked.agree);
@@ -111,7 +118,13 @@ impl<K: Kind> Showing<'_, K> {
         field: RunField<'_>,
         number: usize,
         plugged: &mut [K::Reading],
-    ) -> Result<usize, Trouble> {
+    ) -> Result<usize, Trouble>
+        ensures plan { self.new.plan ≡ self.old.plan }
+        ensures tests { self.new.tests ≡ self.old.tests }
+        ensures order { twins.new.order ≡ twins.old.order }
+        ensures twinned { length plugged.old ≡ twins.old.order.heads → Twinned K.facts.readings.proper K.facts.passes twins.old.order (snap twins.old.home) (snap twins.old.away) → Twinned K.facts.readings.proper K.facts.passes twins.new.order (snap twins.new.home) (snap twins.new.away) }
+        ensures differed { length plugged.old ≡ twins.old.order.heads → Twinned K.facts.readings.proper K.facts.passes twins.old.order (snap twins.old.home) (snap twins.old.away) → self.new.tally.differed ≡ self.old.tally.differed }
+    {
         match field {
             RunField::Frame(body, at) => {
                 let start = at.saturating_add(FIELD_START);
@@ -133,7 +146,11 @@ impl<K: Kind> Showing<'_, K> {
         &mut self,
         twins: &mut Twins<'_, '_, '_, '_, K>,
         plugged: &mut [K::Reading],
-    ) -> Result<(), Trouble> {
+    ) -> Result<(), Trouble>
+        ensures plan { self.new.plan ≡ self.old.plan }
+        ensures tests { self.new.tests ≡ self.old.tests }
+        ensures differed { length plugged.old ≡ twins.old.order.heads → Twinned K.facts.readings.proper K.facts.passes twins.old.order (snap twins.old.home) (snap twins.old.away) → self.new.tally.differed ≡ self.old.tally.differed }
+    {
         let frame_bytes = self.frame.len().saturating_mul(K::R);
         let mut rest = self.run;
         let mut place = 0usize;
@@ -157,7 +174,11 @@ impl<K: Kind> Showing<'_, K> {
         home: &mut [K::Reading],
         away: &mut [K::Reading],
         plugged: &mut [K::Reading],
-    ) -> Result<(), Trouble> {
+    ) -> Result<(), Trouble>
+        ensures plan { self.new.plan ≡ self.old.plan }
+        ensures tests { self.new.tests ≡ self.old.tests }
+        ensures differed { making K.facts.code self.old.plan.now (length self.old.tests.now) (length home.old) ≡ Ok tt → making K.facts.code self.old.plan.now (length self.old.tests.now) (length away.old) ≡ Ok tt → order.heads ≡ self.old.plan.now.heads → length plugged.old ≡ order.heads → self.new.tally.differed ≡ self.old.tally.differed }
+    {
         let sockets = Spaced(plugs);
         write!(self.text, "sockets{sockets}")?;
         let mut twins = Twins::new(self.kind, order, self.plan, self.tests, home, away);
@@ -167,20 +188,38 @@ impl<K: Kind> Showing<'_, K> {
         Ok(())
     }
 
+    // The same for a list of sockets, where it is a plug order.
+    fn show_sockets(
+        &mut self,
+        plugs: &[usize],
+        home: &mut [K::Reading],
+        away: &mut [K::Reading],
+        plugged: &mut [K::Reading],
+    ) -> Result<(), Trouble>
+        ensures plan { self.new.plan ≡ self.old.plan }
+        ensures tests { self.new.tests ≡ self.old.tests }
+        ensures differed { making K.facts.code self.old.plan.now (length self.old.tests.now) (length home.old) ≡ Ok tt → making K.facts.code self.old.plan.now (length self.old.tests.now) (length away.old) ≡ Ok tt → length plugs.now ≡ self.old.plan.now.heads → length plugged.old ≡ self.old.plan.now.heads → self.new.tally.differed ≡ self.old.tally.differed }
+    {
+        match Order::new(plugs) {
+            Some(order) => self.show_order(order, plugs, home, away, plugged),
+            None => Ok(()),
+        }
+    }
+
     // A line of the text for each plug order. Memory for two tails and for a frame as it is plugged is lent.
     fn show_all(
         &mut self,
         home: &mut [K::Reading],
         away: &mut [K::Reading],
         plugged: &mut [K::Reading],
-    ) -> Result<(), Trouble> {
+    ) -> Result<(), Trouble>
+        ensures differed { making K.facts.code self.old.plan.now (length self.old.tests.now) (length home.old) ≡ Ok tt → making K.facts.code self.old.plan.now (length self.old.tests.now) (length away.old) ≡ Ok tt → length plugged.old ≡ self.old.plan.now.heads → self.new.tally.differed ≡ self.old.tally.differed }
+    {
         let mut places = [0; MOST_HEADS];
         let plugs = &mut places[..self.plan.heads().min(MOST_HEADS)];
         // as many times as there are lists, since a loop has to end
         for _ in 0..MOST_LISTS {
-            if let Some(order) = Order::new(plugs) {
-                self.show_order(order, plugs, home, away, plugged)?;
-            }
+            self.show_sockets(plugs, home, away, plugged)?;
             if !advance(plugs) {
                 break;
             }
@@ -189,8 +228,9 @@ impl<K: Kind> Showing<'_, K> {
     }
 }
 
-// A line for each plug order: the order, and what the line plugged so sees; last, whether every verdict agrees with that
-// of the line as it is. Memory for two tails and two frames is lent.
+// A line for each plug order: the order, and what the line plugged so sees. Memory for two tails and two frames is lent.
+// The answer counts orders and verdicts. Where a station can be made in either memory, and `plugged` has a place for each
+// head, no verdict differs from that of the line as it is (`agreed`).
 pub fn show_orders<'a, K: Kind>(
     kind: K,
     plan: &'a Plan,
@@ -201,7 +241,9 @@ pub fn show_orders<'a, K: Kind>(
     frame: &'a mut [K::Reading],
     plugged: &mut [K::Reading],
     out: &'a mut String,
-) -> Result<Tally, Trouble> {
+) -> Result<Tally, Trouble>
+    ensures agreed { making K.facts.code plan.now (length tests.now) (length home.old) ≡ Ok tt → making K.facts.code plan.now (length tests.now) (length away.old) ≡ Ok tt → length plugged.old ≡ plan.now.heads → IfOk result (λ tally. tally.differed ≡ 0) }
+{
     let mut showing = Showing {
         kind,
         plan,

@@ -49,7 +49,8 @@ impl<'p, 's, 't, 'u, K: Kind> Twins<'p, 's, 't, 'u, K> {
         memory: &'t mut [K::Reading],
         other: &'u mut [K::Reading],
     ) -> Twins<'p, 's, 't, 'u, K>
-        ensures { making K.facts.code plan.now (length tests.now) (length memory.old) ≡ Ok tt → making K.facts.code plan.now (length tests.now) (length other.old) ≡ Ok tt → order.heads ≡ plan.now.heads → Twinned K.facts.readings.proper K.facts.passes result.order (snap result.home) (snap result.away) }
+        ensures order { result.order ≡ order }
+        ensures twinned { making K.facts.code plan.now (length tests.now) (length memory.old) ≡ Ok tt → making K.facts.code plan.now (length tests.now) (length other.old) ≡ Ok tt → order.heads ≡ plan.now.heads → Twinned K.facts.readings.proper K.facts.passes result.order (snap result.home) (snap result.away) }
     {
         let mut home = Station::new(kind, plan, tests, memory);
         let mut away = Station::new(kind, plan, tests, other);
